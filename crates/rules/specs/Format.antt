@@ -1,0 +1,27 @@
+-- Document 01, 'The calls and their stores': format.
+-- Assumes nothing.
+use Prim.Native.Nat.{ℕ}
+use mathlib.Core.List.{List, [], _∷_, _++_}
+use mathlib.Core.Option.{Option, none}
+use lib.Dec.{leb}
+use lib.ListN.{length}
+use Rattle.stores.specs.Lists.{each}
+use Rattle.stores.specs.Store.{Store, store}
+use Rattle.stores.specs.Plan.{Plan}
+use Rattle.rules.specs.declared.Refusal.{Refusal}
+use Rattle.rules.specs.declared.Refusal.the-variants.{BadShape, TooShort}
+use Rattle.rules.specs.Layout.{validShape, wordsFor, header, segmentAddress, keyAddress}
+use Rattle.rules.specs.Replies.{Said, done, unless, tested}
+
+-- Format's tests: 8, then 9.
+unfoldable pub formatTests : List ℕ → (D S : ℕ) → Option Refusal
+formatTests a D S = unless (validShape D S) BadShape (unless (leb (wordsFor D S) (length a)) TooShort none)
+
+-- Format's stores: word 0 := 0; word 1 := 0; segment 0's key words := 0, rising; word 0 := valid, with G = 0.
+unfoldable pub formatStores : (D S : ℕ) → List Store
+formatStores D S =
+    store 0 0 ∷ store 1 0 ∷ each (λ j. store (keyAddress (segmentAddress D 0) j) 0 ∷ []) 64 ++ (store 0 (header 0 D S) ∷ [])
+
+-- The plan of a format.
+unfoldable pub format : List ℕ → (D S : ℕ) → Plan Said
+format a D S = tested (formatTests a D S) (record { due = formatStores D S; reply = done [] })

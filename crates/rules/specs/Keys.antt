@@ -1,0 +1,49 @@
+-- Document 01, 'From a key to its slots': bucket, directory bits, live and stale, probe window.
+-- Nothing but `proofs/Keys.antt` opens these definitions.
+-- Assumes nothing.
+use Prim.Native.Nat.{ℕ, zero, suc, _+_, _*_, _-_, _/_, _%_, _^_}
+use mathlib.Core.Bool.{Bool, true, false, not, _&&_}
+use mathlib.Core.List.{List, [], _∷_, _++_}
+use lib.Dec.{eqb}
+use Rattle.stores.specs.Lists.{each}
+
+-- A key's bucket.
+unfoldable pub bucket : ℕ → ℕ
+bucket key = key % 16
+
+-- Directory bit number i of a key, the first being 0 (document 01: route bit). They are bits 4, 5, 6 .. of the key.
+unfoldable pub bit : (key i : ℕ) → ℕ
+bit key i = key / 2 ^ (4 + i) % 2
+
+-- A key's index in the directory of depth g: its first g directory bits, the first one heaviest.
+unfoldable pub index : (key g : ℕ) → ℕ
+index key zero = 0
+index key (suc g) = 2 * index key g + bit key g
+
+-- The number of indices in a block of local depth L, in the directory of depth g.
+unfoldable pub width : (g L : ℕ) → ℕ
+width g L = 2 ^ (g - L)
+
+-- The first L bits of index i, which all indices of its block of local depth L share.
+unfoldable pub blockBits : (g L i : ℕ) → ℕ
+blockBits g L i = i / width g L
+
+-- The first index of the block of local depth L that holds index i.
+unfoldable pub blockStart : (g L i : ℕ) → ℕ
+blockStart g L i = width g L * blockBits g L i
+
+-- A key is live in a segment of local depth L whose block's first L bits are `bits`. A nonzero key that is not is stale.
+unfoldable pub live : (L bits key : ℕ) → Bool
+live L bits key = not (eqb key 0) && eqb (index key L) bits
+
+-- Bucket number b of a key's probe window (document 01: window): the key's own and the next three, 0 following 15.
+unfoldable pub windowBucket : (key b : ℕ) → ℕ
+windowBucket key b = (bucket key + b) % 16
+
+-- The four slots of a bucket, rising.
+unfoldable pub slotsOf : ℕ → List ℕ
+slotsOf b = each (λ j. (4 * b + j) ∷ []) 4
+
+-- The sixteen slots of a key's probe window, in the order of the search.
+unfoldable pub window : ℕ → List ℕ
+window key = each (λ b. slotsOf (windowBucket key b)) 4

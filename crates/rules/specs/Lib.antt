@@ -1,0 +1,14 @@
+-- Document 01 as definitions, in its order.
+pub mod Layout
+pub mod Keys
+pub mod Scan
+pub mod Slots
+pub mod Replies
+pub mod Format
+pub mod Get
+pub mod Split
+pub mod Put
+pub mod Remove
+pub mod Mend
+pub mod Listing
+pub mod Step

@@ -1,0 +1,57 @@
+-- Document 01, 'The calls and their stores': list, which makes no store in the index.
+-- Assumes nothing.
+use Prim.Native.Nat.{ℕ, _*_, _^_}
+use mathlib.Core.Path.{_≡_}
+use mathlib.Core.List.{List, [], _∷_, _++_, List·Permᴰ}
+use mathlib.Core.Option.{Option, none}
+use lib.Dec.{leb, eqb}
+use lib.ListN.{length, drop}
+use Rattle.stores.specs.Lists.{pick, each}
+use Rattle.rules.specs.declared.Refusal.{Refusal}
+use Rattle.rules.specs.declared.Refusal.the-variants.{NoStore, ShortList}
+use Rattle.rules.specs.Layout.{validHeader, depth, maxDepth, entryAt, segmentOf, localDepth, segmentAddress, keyAt, valueAt}
+use Rattle.rules.specs.Keys.{blockBits, live}
+use Rattle.rules.specs.Scan.{leader}
+use Rattle.rules.specs.Replies.{Said, done, unless, replied}
+use Rattle.rules.specs.Put.{directoryTests}
+
+-- A record: a key and its value.
+pub record Record : Type 0 where
+  pub key : ℕ
+  pub value : ℕ
+
+-- The record in slot j of the segment at `base`, where its key is live there.
+unfoldable pub liveRecord : List ℕ → (base L bits j : ℕ) → List Record
+liveRecord a base L bits j =
+    pick (live L bits (keyAt a base j)) (record { key = keyAt a base j; value = valueAt a base j } ∷ []) []
+
+-- The live records of the block at index i whose entry is e, slots rising.
+unfoldable pub blockRecords : List ℕ → (i e : ℕ) → List Record
+blockRecords a i e =
+    each (liveRecord a (segmentAddress (maxDepth a) (segmentOf e)) (localDepth e) (blockBits (depth a) (localDepth e) i)) 64
+
+-- Every live record: for each block, each slot live there.
+unfoldable pub records : List ℕ → List Record
+records a =
+    each (λ i. pick (eqb (leader a (depth a) i) i) (blockRecords a i (entryAt a (depth a) i)) []) (2 ^ depth a)
+
+-- Records as words: each as key, then value.
+unfoldable pub wordsOf : List Record → List ℕ
+wordsOf [] = []
+wordsOf (r ∷ rs) = r .key ∷ r .value ∷ wordsOf rs
+
+-- The tests of list, with a list array of `room` words: 1, 3, 4, then 10.
+unfoldable pub listTests : List ℕ → (room : ℕ) → Option Refusal
+listTests a room =
+    unless (validHeader a) NoStore (directoryTests a (unless (leb (2 * length (records a)) room) ShortList none))
+
+-- What a list says: the number of records.
+unfoldable pub list : List ℕ → (room : ℕ) → Said
+list a room = replied (listTests a room) (done (length (records a) ∷ []))
+
+-- What a done list of the array a leaves in the list array l: the records in some order, key then value, and behind them
+-- what stood there. The order is the program's choice; every choice holds the same records.
+pub record Listed (a l l′ : List ℕ) : Type 0 where
+  pub order : List Record
+  pub same : List·Permᴰ order (records a)
+  pub words : l′ ≡ wordsOf order ++ drop (length (wordsOf order)) l

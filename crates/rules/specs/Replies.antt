@@ -1,0 +1,56 @@
+-- Document 01, 'Replies that say no': what the code's answers mean in its numbers, and tests in its order.
+-- Assumes nothing.
+use Prim.Native.Nat.{ℕ}
+use mathlib.Core.Bool.{Bool, true, false}
+use mathlib.Core.List.{List, [], _∷_}
+use mathlib.Core.Option.{Option, none, some}
+use Rattle.stores.specs.Plan.{Plan, reply-only}
+use Rattle.rules.specs.declared.Refusal.{Refusal}
+use Rattle.rules.specs.declared.Refusal.the-variants.{NoStore, NoKey, Broken, Unmended, TooDeep, NoSegment, CutOff, BadShape, TooShort, ShortList}
+use Rattle.rules.specs.declared.Reply.{Reply}
+use Rattle.rules.specs.declared.Reply.the-variants.{Done, Value, Absent, Refused}
+
+-- The number of a refusal in the table.
+abbrev pub numberOf : Refusal → ℕ
+numberOf NoStore = 1
+numberOf NoKey = 2
+numberOf Broken = 3
+numberOf Unmended = 4
+numberOf TooDeep = 5
+numberOf NoSegment = 6
+numberOf CutOff = 7
+numberOf BadShape = 8
+numberOf TooShort = 9
+numberOf ShortList = 10
+
+-- What a call says: done, with the values that go with it; absent; or the number of a refusal.
+pub data Said : Type 0 where
+  done : List ℕ → Said
+  absent : Said
+  refused : ℕ → Said
+
+-- What a reply of the code says.
+abbrev pub saidBy : Reply → Said
+saidBy Done = done []
+saidBy (Value v) = done (v ∷ [])
+saidBy Absent = absent
+saidBy (Refused r) = refused (numberOf r)
+
+-- A refusal, said by its number.
+abbrev pub refuse : Refusal → Said
+refuse r = refused (numberOf r)
+
+-- A test, and the tests after it: the first that fails gives its refusal, and none is given where all pass.
+unfoldable pub unless : Bool → Refusal → Option Refusal → Option Refusal
+unless true r later = later
+unless false r later = some r
+
+-- A plan behind tests: a refusal by the tests makes no store.
+unfoldable pub tested : Option Refusal → Plan Said → Plan Said
+tested none p = p
+tested (some r) p = reply-only (refuse r)
+
+-- A reply behind tests, of a call that makes no store.
+unfoldable pub replied : Option Refusal → Said → Said
+replied none s = s
+replied (some r) s = refuse r

@@ -1,0 +1,6 @@
+-- The laws of stores, plans and their lists.
+pub mod Tests
+pub mod Lists
+pub mod Stores
+pub mod Parts
+pub mod Plans

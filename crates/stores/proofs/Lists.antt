@@ -1,0 +1,180 @@
+-- Laws of the joined list, of the first element that passes, and of tests over all numbers below a bound.
+-- Assumes nothing.
+use mathlib.Core.Path.{_≡_, refl, sym, ap, ap₂, _∙_}
+use mathlib.Core.Bool.{Bool, true, false, _&&_, _||_, true≢false, false≢true}
+use mathlib.Core.List.{List, [], _∷_, _++_, List·Memᴰ, List·Memᴰ·head, List·Memᴰ·tail}
+use mathlib.Core.Option.{Option, none, some}
+use mathlib.Core.Logic.{_⊎_, inl, inr, ⊎-elim}
+use Prim.Native.Nat.{ℕ, zero, suc, _+_, _*_, _≤_, _<_}
+use native.Mathlib.Nat.{le-refl, not-suc-le-zero, eq-or-lt-of-le, le-of-suc-le-suc, le-step, add-zero, add-suc, mul-zero, mul-suc}
+use native.Mathlib.Omega.{arith}
+use lib.ListN.{length, length-append}
+use Rattle.stores.specs.Lists.{pick, each, firstIn, allBelow, anyBelow}
+use Rattle.stores.specs.Store.{Store, Every}
+use Rattle.stores.proofs.Tests.{cases, and-left, and-right, and-true, or-cases, or-left, or-right}
+
+-- ---- The joined list
+
+pub each-zero : {A : Type 0} (f : ℕ → List A) → each f zero ≡ []
+unfolding each
+each-zero f = refl
+
+pub each-suc : {A : Type 0} (f : ℕ → List A) (n : ℕ) → each f (suc n) ≡ each f n ++ f n
+unfolding each
+each-suc f n = refl
+
+-- Only the lists below the bound count.
+pub each-same : {A : Type 0} (f g : ℕ → List A) (n : ℕ) → ((i : ℕ) → i < n → f i ≡ g i) → each f n ≡ each g n
+unfolding each
+each-same f g zero h = refl
+each-same {A} f g (suc n) h =
+    ap₂ (λ (x y : List A). x ++ y) (each-same f g n (λ i k. h i (le-step k))) (h n (le-refl (suc n)))
+
+pub length-each-le : {A : Type 0} (f : ℕ → List A) (m n : ℕ) → ((i : ℕ) → i < n → length (f i) ≤ m) → length (each f n) ≤ m * n
+unfolding each
+length-each-le f m zero h = omega arith
+length-each-le f m (suc n) h =
+    let front : length (each f n) ≤ m * n = length-each-le f m n (λ i k. h i (le-step k)) in
+    let last : length (f n) ≤ m = h n (le-refl (suc n)) in
+    rw (length-append, mul-suc) (omega arith)
+
+pub length-each-ones : {A : Type 0} (f : ℕ → A) (n : ℕ) → length (each (λ i. f i ∷ []) n) ≡ n
+unfolding each
+length-each-ones f zero = refl
+length-each-ones f (suc n) =
+    length-append (each (λ i. f i ∷ []) n) (f n ∷ []) ∙ ap (λ (k : ℕ). k + 1) (length-each-ones f n) ∙ omega arith
+
+-- ---- Every store
+
+pub every-append : (P : Store → Type 0) (ss tt : List Store) → Every P ss → Every P tt → Every P (ss ++ tt)
+every-append P [] tt h k = k
+every-append P (s ∷ ss) tt h k = (h .0, every-append P ss tt (h .1) k)
+
+pub every-left : (P : Store → Type 0) (ss tt : List Store) → Every P (ss ++ tt) → Every P ss
+every-left P [] tt h = Prim.tt
+every-left P (s ∷ ss) tt h = (h .0, every-left P ss tt (h .1))
+
+pub every-each : (P : Store → Type 0) (f : ℕ → List Store) (n : ℕ) → ((i : ℕ) → i < n → Every P (f i)) → Every P (each f n)
+unfolding each
+every-each P f zero h = Prim.tt
+every-each P f (suc n) h =
+    every-append P (each f n) (f n) (every-each P f n (λ i k. h i (le-step k))) (h n (le-refl (suc n)))
+
+pub every-map : (P Q : Store → Type 0) → ((s : Store) → P s → Q s) → (ss : List Store) → Every P ss → Every Q ss
+every-map P Q f [] h = Prim.tt
+every-map P Q f (s ∷ ss) h = (f s (h .0), every-map P Q f ss (h .1))
+
+-- ---- The first that passes
+
+-- Only the test at the list's elements counts.
+pub first-same : (p q : ℕ → Bool) (xs : List ℕ) → ((x : ℕ) → List·Memᴰ x xs → p x ≡ q x) → firstIn p xs ≡ firstIn q xs
+unfolding firstIn
+first-same p q [] h = refl
+first-same p q (x ∷ xs) h =
+    ap₂ (λ (b : Bool) (r : Option ℕ). pick b (some x) r) (h x (List·Memᴰ·head refl))
+      (first-same p q xs (λ y m. h y (List·Memᴰ·tail m)))
+
+-- Passed over: the search goes on behind an element that fails, and stops at one that passes.
+pub first-next : (p : ℕ → Bool) (x : ℕ) (xs : List ℕ) → p x ≡ false → firstIn p (x ∷ xs) ≡ firstIn p xs
+unfolding firstIn
+first-next p x xs e = rw e
+
+pub first-here : (p : ℕ → Bool) (x : ℕ) (xs : List ℕ) → p x ≡ true → firstIn p (x ∷ xs) ≡ some x
+unfolding firstIn
+first-here p x xs e = rw e
+
+some-none : (x : ℕ) → some x ≡ none → ⊥
+some-none x f = let z : _≡_ {A = ℕ} 0 1 = cc in omega arith
+
+-- Nothing in front passes: the search goes on behind it.
+pub first-append : (p : ℕ → Bool) (xs ys : List ℕ) → firstIn p xs ≡ none → firstIn p (xs ++ ys) ≡ firstIn p ys
+first-append p [] ys e = refl
+first-append p (x ∷ xs) ys e =
+    ⊎-elim
+      (λ (t : p x ≡ true). absurd (some-none x (sym (first-here p x xs t) ∙ e)))
+      (λ (t : p x ≡ false). first-next p x (xs ++ ys) t ∙ first-append p xs ys (sym (first-next p x xs t) ∙ e))
+      (cases (p x))
+
+-- Something in front passes: the search ends there.
+pub first-append-some : (p : ℕ → Bool) (xs ys : List ℕ) (y : ℕ) → firstIn p xs ≡ some y → firstIn p (xs ++ ys) ≡ some y
+unfolding firstIn
+first-append-some p [] ys y e = absurd (some-none y (sym e))
+first-append-some p (x ∷ xs) ys y e =
+    ⊎-elim
+      (λ (t : p x ≡ true). first-here p x (xs ++ ys) t ∙ sym (first-here p x xs t) ∙ e)
+      (λ (t : p x ≡ false). first-next p x (xs ++ ys) t ∙ first-append-some p xs ys y (sym (first-next p x xs t) ∙ e))
+      (cases (p x))
+
+-- What is found is an element of the list, and passes.
+pub first-some : (p : ℕ → Bool) (xs : List ℕ) (y : ℕ) → firstIn p xs ≡ some y → List·Memᴰ y xs × (p y ≡ true)
+unfolding firstIn
+first-some p [] y e = absurd (some-none y (sym e))
+first-some p (x ∷ xs) y e =
+    ⊎-elim
+      (λ (t : p x ≡ true).
+        let q : x ≡ y = some-inj x y (sym (first-here p x xs t) ∙ e) in
+        (List·Memᴰ·head (sym q), rw q at t))
+      (λ (t : p x ≡ false).
+        let r = first-some p xs y (sym (first-next p x xs t) ∙ e) in
+        (List·Memᴰ·tail (r .0), r .1))
+      (cases (p x))
+  where
+    some-inj : (u v : ℕ) → some u ≡ some v → u ≡ v
+    some-inj u v f = cc
+
+-- Where nothing is found, no element passes.
+pub first-none : (p : ℕ → Bool) (xs : List ℕ) → firstIn p xs ≡ none → (y : ℕ) → List·Memᴰ y xs → p y ≡ false
+first-none p xs e y (List·Memᴰ·head {x = x} {xs = ys} q) =
+    ⊎-elim
+      (λ (t : p x ≡ true). absurd (some-none x (sym (first-here p x ys t) ∙ e)))
+      (λ (t : p x ≡ false). rw q t)
+      (cases (p x))
+first-none p xs e y (List·Memᴰ·tail {x = x} {xs = ys} m) =
+    ⊎-elim
+      (λ (t : p x ≡ true). absurd (some-none x (sym (first-here p x ys t) ∙ e)))
+      (λ (t : p x ≡ false). first-none p ys (sym (first-next p x ys t) ∙ e) y m)
+      (cases (p x))
+
+-- ---- Tests below a bound
+
+pub all-at : (p : ℕ → Bool) (n : ℕ) → allBelow p n ≡ true → (i : ℕ) → i < n → p i ≡ true
+unfolding allBelow
+all-at p zero e i h = absurd (not-suc-le-zero h)
+all-at p (suc n) e i h =
+    ⊎-elim
+      (λ (q : i ≡ n). rw q (and-right (allBelow p n) (p n) e))
+      (λ (q : i < n). all-at p n (and-left (allBelow p n) (p n) e) i q)
+      (eq-or-lt-of-le (le-of-suc-le-suc h))
+
+pub all-true : (p : ℕ → Bool) (n : ℕ) → ((i : ℕ) → i < n → p i ≡ true) → allBelow p n ≡ true
+unfolding allBelow
+all-true p zero h = refl
+all-true p (suc n) h = and-true (all-true p n (λ i k. h i (le-step k))) (h n (le-refl (suc n)))
+
+pub all-same : (p q : ℕ → Bool) (n : ℕ) → ((i : ℕ) → i < n → p i ≡ q i) → allBelow p n ≡ allBelow q n
+unfolding allBelow
+all-same p q zero h = refl
+all-same p q (suc n) h = ap₂ (λ (x y : Bool). x && y) (all-same p q n (λ i k. h i (le-step k))) (h n (le-refl (suc n)))
+
+pub any-true : (p : ℕ → Bool) (n i : ℕ) → i < n → p i ≡ true → anyBelow p n ≡ true
+unfolding anyBelow
+any-true p zero i h e = absurd (not-suc-le-zero h)
+any-true p (suc n) i h e =
+    ⊎-elim
+      (λ (q : i ≡ n). or-right (anyBelow p n) (rw q at e))
+      (λ (q : i < n). or-left (p n) (any-true p n i q e))
+      (eq-or-lt-of-le (le-of-suc-le-suc h))
+
+pub any-at : (p : ℕ → Bool) (n : ℕ) → anyBelow p n ≡ true → (i : ℕ) × (i < n) × (p i ≡ true)
+unfolding anyBelow
+any-at p zero e = absurd (false≢true e)
+any-at p (suc n) e =
+    ⊎-elim
+      (λ (q : anyBelow p n ≡ true). let r = any-at p n q in (r .0, le-step (r .1), r .2))
+      (λ (q : p n ≡ true). (n, le-refl (suc n), q))
+      (or-cases (anyBelow p n) (p n) e)
+
+pub any-same : (p q : ℕ → Bool) (n : ℕ) → ((i : ℕ) → i < n → p i ≡ q i) → anyBelow p n ≡ anyBelow q n
+unfolding anyBelow
+any-same p q zero h = refl
+any-same p q (suc n) h = ap₂ (λ (x y : Bool). x || y) (any-same p q n (λ i k. h i (le-step k))) (h n (le-refl (suc n)))

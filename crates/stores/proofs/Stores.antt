@@ -1,0 +1,111 @@
+-- What stores leave: by append and by prefix, lengths, and reads after stores.
+-- Assumes nothing.
+use mathlib.Core.Path.{_≡_, refl, sym, ap, _∙_}
+use mathlib.Core.Bool.{Bool, true, false, _||_}
+use mathlib.Core.List.{List, [], _∷_, _++_}
+use mathlib.Core.Logic.{⊎-elim}
+use Prim.Native.Nat.{ℕ, zero, suc, _+_, _-_, _≤_, _<_}
+use native.Mathlib.Nat.{zero-sub, sub-zero, suc-sub-suc, not-suc-le-zero}
+use native.Mathlib.Omega.{arith}
+use borrow.Author.Tests.{eqb-true, eqb-false, ne-eqb}
+use lib.Dec.{eqb}
+use lib.ListN.{length, getD, set, take, drop, length-set, length-append}
+use lib.Seq.{take-all, take-nil, getD-set-same, getD-set-other}
+use Rattle.stores.specs.Lists.{pick}
+use Rattle.stores.specs.Store.{Store, word, store, apply, exec, Every, writes}
+use Rattle.stores.specs.Executed.{Executed}
+use Rattle.stores.proofs.Tests.{cases}
+
+pub apply-append : (ss tt : List Store) (a : List ℕ) → apply (ss ++ tt) a ≡ apply tt (apply ss a)
+unfolding apply
+apply-append [] tt a = refl
+apply-append (s ∷ ss) tt a = apply-append ss tt (set a (s .at) (s .value))
+
+pub length-apply : (ss : List Store) (a : List ℕ) → length (apply ss a) ≡ length a
+unfolding apply
+length-apply [] a = refl
+length-apply (s ∷ ss) a = length-apply ss (set a (s .at) (s .value)) ∙ length-set a (s .at) (s .value)
+
+pub length-exec : (ss : List Store) (n : ℕ) (a : List ℕ) → length (exec ss n a) ≡ length a
+unfolding exec
+length-exec ss n a = length-apply (take n ss) a
+
+-- With room for all, all are made.
+pub exec-all : (ss : List Store) (n : ℕ) (a : List ℕ) → length ss ≤ n → exec ss n a ≡ apply ss a
+unfolding exec
+exec-all ss n a h = rw (take-all n ss h)
+
+pub exec-none : (ss : List Store) (a : List ℕ) → exec ss 0 a ≡ a
+unfolding exec apply
+exec-none ss a = refl
+
+-- One store under an allowance that reaches it, and under one that does not.
+pub exec-made : (s : Store) (n : ℕ) (a : List ℕ) → 0 < n → exec (s ∷ []) n a ≡ set a (s .at) (s .value)
+unfolding exec apply
+exec-made s zero a h = absurd (not-suc-le-zero h)
+exec-made s (suc n) a h = rw (take-nil {A = Store} n)
+
+pub exec-not-made : (ss : List Store) (n : ℕ) (a : List ℕ) → n ≡ 0 → exec ss n a ≡ a
+exec-not-made ss n a e = rw e (exec-none ss a)
+
+pub take-append : (ss tt : List Store) (n : ℕ) → take n (ss ++ tt) ≡ take n ss ++ take (n - length ss) tt
+take-append [] tt n = rw (sub-zero n, take-nil {A = Store} n)
+take-append (s ∷ ss) tt zero = rw (zero-sub (suc (length ss)))
+take-append (s ∷ ss) tt (suc n) = ap (λ (r : List Store). s ∷ r) (take-append ss tt n) ∙ rw (suc-sub-suc n (length ss))
+
+-- Stores after stores, under one allowance: the later ones get what the earlier ones left of it.
+pub exec-append : (ss tt : List Store) (n : ℕ) (a : List ℕ) → exec (ss ++ tt) n a ≡ exec tt (n - length ss) (exec ss n a)
+unfolding exec
+exec-append ss tt n a = rw (take-append ss tt n) (apply-append (take n ss) (take (n - length ss) tt) a)
+
+-- ---- The promise of code that stores
+
+pub executed-none : (allowed due : ℕ) (a : List ℕ) → Executed [] allowed due a due a
+unfolding exec apply
+executed-none allowed due a = record { count = omega arith; words = rw (take-nil {A = Store} (allowed - due)) }
+
+pub executed-append : (ss tt : List Store) (allowed due : ℕ) (a : List ℕ) (due₁ : ℕ) (a₁ : List ℕ) (due₂ : ℕ) (a₂ : List ℕ)
+    → Executed ss allowed due a due₁ a₁ → Executed tt allowed due₁ a₁ due₂ a₂ → Executed (ss ++ tt) allowed due a due₂ a₂
+executed-append ss tt allowed due a due₁ a₁ due₂ a₂ p q =
+    let c₁ : due₁ ≡ due + length ss = p .count in
+    let c₂ : due₂ ≡ due₁ + length tt = q .count in
+    let left : allowed - due₁ ≡ allowed - due - length ss = omega arith in
+    record
+      { count = rw (length-append ss tt) (omega arith)
+      ; words = q .words ∙ rw (p .words, left) (sym (exec-append ss tt (allowed - due) a))
+      }
+
+-- ---- Reads after stores
+
+pub word-set-same : (a : List ℕ) (i v : ℕ) → i < length a → word (set a i v) i ≡ v
+word-set-same a i v h = getD-set-same a i v 0 h
+
+pub word-set-other : (a : List ℕ) (i j v : ℕ) → (j ≡ i → ⊥) → word (set a i v) j ≡ word a j
+word-set-other a i j v h = getD-set-other a i j v 0 h
+
+-- A word that no store writes is as it was.
+pub word-elsewhere : (ss : List Store) (a : List ℕ) (i : ℕ) → Every (λ s. s .at ≡ i → ⊥) ss → word (apply ss a) i ≡ word a i
+unfolding apply
+word-elsewhere [] a i h = refl
+word-elsewhere (s ∷ ss) a i h =
+    word-elsewhere ss (set a (s .at) (s .value)) i (h .1) ∙ word-set-other a (s .at) i (s .value) (λ e. h .0 (sym e))
+
+-- Stores that each write M of their address leave M where they write, in whatever order, and the old word elsewhere.
+pub word-apply : (M : ℕ → ℕ) (ss : List Store) (a : List ℕ) → Every (λ s. s .value ≡ M (s .at)) ss → (i : ℕ) → i < length a
+    → word (apply ss a) i ≡ pick (writes ss i) (M i) (word a i)
+unfolding apply writes
+word-apply M [] a h i b = refl
+word-apply M (s ∷ ss) a h i b =
+    word-apply M ss (set a (s .at) (s .value)) (h .1) i (rw length-set b)
+    ∙ ⊎-elim
+      (λ (t : eqb (s .at) i ≡ true).
+        let e : s .at ≡ i = eqb-true (s .at) i t in
+        let v : word (set a (s .at) (s .value)) i ≡ M i = rw e (word-set-same a i (s .value) b ∙ h .0 ∙ ap M e) in
+        rw (t, v) (same (writes ss i) (M i)))
+      (λ (t : eqb (s .at) i ≡ false).
+        rw (t, word-set-other a (s .at) i (s .value) (λ e. eqb-false (s .at) i t (sym e))))
+      (cases (eqb (s .at) i))
+  where
+    same : (b : Bool) (x : ℕ) → pick b x x ≡ x
+    same true x = refl
+    same false x = refl

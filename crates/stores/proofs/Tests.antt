@@ -1,0 +1,32 @@
+-- Tests that are true or false: which parts of them hold, and how they are split by cases.
+-- Assumes nothing.
+use mathlib.Core.Path.{_≡_, refl}
+use mathlib.Core.Bool.{Bool, true, false, _&&_, _||_, false≢true}
+use mathlib.Core.Logic.{_⊎_, inl, inr}
+
+-- A test is true or false, with the equation.
+pub cases : (b : Bool) → (b ≡ true) ⊎ (b ≡ false)
+cases true = inl refl
+cases false = inr refl
+
+pub and-left : (a b : Bool) → a && b ≡ true → a ≡ true
+and-left true b e = refl
+and-left false b e = absurd (false≢true e)
+
+pub and-right : (a b : Bool) → a && b ≡ true → b ≡ true
+and-right true b e = e
+and-right false b e = absurd (false≢true e)
+
+pub and-true : {a b : Bool} → a ≡ true → b ≡ true → a && b ≡ true
+and-true {a} {b} p q = rw (p, q)
+
+pub or-cases : (a b : Bool) → a || b ≡ true → (a ≡ true) ⊎ (b ≡ true)
+or-cases true b e = inl refl
+or-cases false b e = inr e
+
+pub or-right : (a : Bool) {b : Bool} → b ≡ true → a || b ≡ true
+or-right true e = refl
+or-right false e = e
+
+pub or-left : {a : Bool} (b : Bool) → a ≡ true → a || b ≡ true
+or-left b e = rw e
