@@ -28,8 +28,8 @@ putTests a key = keyTests a key (directoryTests a none)
 unfoldable pub keyChoice : List ℕ → (key : ℕ) → Choice
 keyChoice a key =
     choose a (keySegment a key) (localDepth (keyEntry a key))
-      (blockBits (depth a) (localDepth (keyEntry a key)) (index key (depth a)))
-      key
+    (blockBits (depth a) (localDepth (keyEntry a key)) (index key (depth a)))
+    key
 
 -- A put by the choice of a slot in the segment at `base`: the value alone, or value, then key; where the window is full, the plan p.
 unfoldable pub placed : (base key value : ℕ) → Choice → Plan Said → Plan Said

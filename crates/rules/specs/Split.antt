@@ -44,11 +44,11 @@ updating g L start s n =
 unfoldable pub halvingOf : List ℕ → (i e n : ℕ) → List Store
 halvingOf a i e n =
     copying
-      a
-      (segmentAddress (maxDepth a) (segmentOf e))
-      (segmentAddress (maxDepth a) n)
-      (localDepth e)
-      (blockBits (depth a) (localDepth e) i)
+    a
+    (segmentAddress (maxDepth a) (segmentOf e))
+    (segmentAddress (maxDepth a) n)
+    (localDepth e)
+    (blockBits (depth a) (localDepth e) i)
     ++ updating (depth a) (localDepth e) (blockStart (depth a) (localDepth e) i) (segmentOf e) n
 
 -- Steps 3 and 4 for the key's block.

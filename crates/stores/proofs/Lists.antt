@@ -72,7 +72,7 @@ unfolding firstIn
 first-same p q [] h = refl
 first-same p q (x ∷ xs) h =
     ap₂ (λ (b : Bool) (r : Option ℕ). pick b (some x) r) (h x (List·Memᴰ·head refl))
-      (first-same p q xs (λ y m. h y (List·Memᴰ·tail m)))
+    (first-same p q xs (λ y m. h y (List·Memᴰ·tail m)))
 
 -- Passed over: the search goes on behind an element that fails, and stops at one that passes.
 pub first-next : (p : ℕ → Bool) (x : ℕ) (xs : List ℕ) → p x ≡ false → firstIn p (x ∷ xs) ≡ firstIn p xs
@@ -91,9 +91,9 @@ pub first-append : (p : ℕ → Bool) (xs ys : List ℕ) → firstIn p xs ≡ no
 first-append p [] ys e = refl
 first-append p (x ∷ xs) ys e =
     ⊎-elim
-      (λ (t : p x ≡ true). absurd (some-none x (sym (first-here p x xs t) ∙ e)))
-      (λ (t : p x ≡ false). first-next p x (xs ++ ys) t ∙ first-append p xs ys (sym (first-next p x xs t) ∙ e))
-      (cases (p x))
+    (λ (t : p x ≡ true). absurd (some-none x (sym (first-here p x xs t) ∙ e)))
+    (λ (t : p x ≡ false). first-next p x (xs ++ ys) t ∙ first-append p xs ys (sym (first-next p x xs t) ∙ e))
+    (cases (p x))
 
 -- Something in front passes: the search ends there.
 pub first-append-some : (p : ℕ → Bool) (xs ys : List ℕ) (y : ℕ) → firstIn p xs ≡ some y → firstIn p (xs ++ ys) ≡ some y
@@ -101,9 +101,9 @@ unfolding firstIn
 first-append-some p [] ys y e = absurd (some-none y (sym e))
 first-append-some p (x ∷ xs) ys y e =
     ⊎-elim
-      (λ (t : p x ≡ true). first-here p x (xs ++ ys) t ∙ sym (first-here p x xs t) ∙ e)
-      (λ (t : p x ≡ false). first-next p x (xs ++ ys) t ∙ first-append-some p xs ys y (sym (first-next p x xs t) ∙ e))
-      (cases (p x))
+    (λ (t : p x ≡ true). first-here p x (xs ++ ys) t ∙ sym (first-here p x xs t) ∙ e)
+    (λ (t : p x ≡ false). first-next p x (xs ++ ys) t ∙ first-append-some p xs ys y (sym (first-next p x xs t) ∙ e))
+    (cases (p x))
 
 -- What is found is an element of the list, and passes.
 pub first-some : (p : ℕ → Bool) (xs : List ℕ) (y : ℕ) → firstIn p xs ≡ some y → List·Memᴰ y xs × (p y ≡ true)
@@ -111,13 +111,13 @@ unfolding firstIn
 first-some p [] y e = absurd (some-none y (sym e))
 first-some p (x ∷ xs) y e =
     ⊎-elim
-      (λ (t : p x ≡ true).
-        let q : x ≡ y = some-inj x y (sym (first-here p x xs t) ∙ e) in
-        (List·Memᴰ·head (sym q), rw q at t))
-      (λ (t : p x ≡ false).
-        let r = first-some p xs y (sym (first-next p x xs t) ∙ e) in
-        (List·Memᴰ·tail (r .0), r .1))
-      (cases (p x))
+    (λ (t : p x ≡ true).
+    let q : x ≡ y = some-inj x y (sym (first-here p x xs t) ∙ e) in
+    (List·Memᴰ·head (sym q), rw q at t))
+    (λ (t : p x ≡ false).
+    let r = first-some p xs y (sym (first-next p x xs t) ∙ e) in
+    (List·Memᴰ·tail (r .0), r .1))
+    (cases (p x))
   where
     some-inj : (u v : ℕ) → some u ≡ some v → u ≡ v
     some-inj u v f = cc
@@ -126,14 +126,14 @@ first-some p (x ∷ xs) y e =
 pub first-none : (p : ℕ → Bool) (xs : List ℕ) → firstIn p xs ≡ none → (y : ℕ) → List·Memᴰ y xs → p y ≡ false
 first-none p xs e y (List·Memᴰ·head {x = x} {xs = ys} q) =
     ⊎-elim
-      (λ (t : p x ≡ true). absurd (some-none x (sym (first-here p x ys t) ∙ e)))
-      (λ (t : p x ≡ false). rw q t)
-      (cases (p x))
+    (λ (t : p x ≡ true). absurd (some-none x (sym (first-here p x ys t) ∙ e)))
+    (λ (t : p x ≡ false). rw q t)
+    (cases (p x))
 first-none p xs e y (List·Memᴰ·tail {x = x} {xs = ys} m) =
     ⊎-elim
-      (λ (t : p x ≡ true). absurd (some-none x (sym (first-here p x ys t) ∙ e)))
-      (λ (t : p x ≡ false). first-none p ys (sym (first-next p x ys t) ∙ e) y m)
-      (cases (p x))
+    (λ (t : p x ≡ true). absurd (some-none x (sym (first-here p x ys t) ∙ e)))
+    (λ (t : p x ≡ false). first-none p ys (sym (first-next p x ys t) ∙ e) y m)
+    (cases (p x))
 
 -- ---- Tests below a bound
 
@@ -142,9 +142,9 @@ unfolding allBelow
 all-at p zero e i h = absurd (not-suc-le-zero h)
 all-at p (suc n) e i h =
     ⊎-elim
-      (λ (q : i ≡ n). rw q (and-right (allBelow p n) (p n) e))
-      (λ (q : i < n). all-at p n (and-left (allBelow p n) (p n) e) i q)
-      (eq-or-lt-of-le (le-of-suc-le-suc h))
+    (λ (q : i ≡ n). rw q (and-right (allBelow p n) (p n) e))
+    (λ (q : i < n). all-at p n (and-left (allBelow p n) (p n) e) i q)
+    (eq-or-lt-of-le (le-of-suc-le-suc h))
 
 pub all-true : (p : ℕ → Bool) (n : ℕ) → ((i : ℕ) → i < n → p i ≡ true) → allBelow p n ≡ true
 unfolding allBelow
@@ -161,18 +161,18 @@ unfolding anyBelow
 any-true p zero i h e = absurd (not-suc-le-zero h)
 any-true p (suc n) i h e =
     ⊎-elim
-      (λ (q : i ≡ n). or-right (anyBelow p n) (rw q at e))
-      (λ (q : i < n). or-left (p n) (any-true p n i q e))
-      (eq-or-lt-of-le (le-of-suc-le-suc h))
+    (λ (q : i ≡ n). or-right (anyBelow p n) (rw q at e))
+    (λ (q : i < n). or-left (p n) (any-true p n i q e))
+    (eq-or-lt-of-le (le-of-suc-le-suc h))
 
 pub any-at : (p : ℕ → Bool) (n : ℕ) → anyBelow p n ≡ true → (i : ℕ) × (i < n) × (p i ≡ true)
 unfolding anyBelow
 any-at p zero e = absurd (false≢true e)
 any-at p (suc n) e =
     ⊎-elim
-      (λ (q : anyBelow p n ≡ true). let r = any-at p n q in (r .0, le-step (r .1), r .2))
-      (λ (q : p n ≡ true). (n, le-refl (suc n), q))
-      (or-cases (anyBelow p n) (p n) e)
+    (λ (q : anyBelow p n ≡ true). let r = any-at p n q in (r .0, le-step (r .1), r .2))
+    (λ (q : p n ≡ true). (n, le-refl (suc n), q))
+    (or-cases (anyBelow p n) (p n) e)
 
 pub any-same : (p q : ℕ → Bool) (n : ℕ) → ((i : ℕ) → i < n → p i ≡ q i) → anyBelow p n ≡ anyBelow q n
 unfolding anyBelow

@@ -22,8 +22,8 @@ unfolding apply shifted
 apply-part front part back [] h = refl
 apply-part front part back (s ∷ ss) h =
     ap (apply (shifted (length front) ss))
-      (set-behind front (part ++ back) (s .at) (s .value)
-      ∙ ap (λ (r : List ℕ). front ++ r) (set-append-left part back (s .at) (s .value) (h .0)))
+    (set-behind front (part ++ back) (s .at) (s .value)
+    ∙ ap (λ (r : List ℕ). front ++ r) (set-append-left part back (s .at) (s .value) (h .0)))
     ∙ apply-part front (set part (s .at) (s .value)) back ss (rw length-set (h .1))
 
 pub shifted-append : (base : ℕ) (ss tt : List Store) → shifted base (ss ++ tt) ≡ shifted base ss ++ shifted base tt
@@ -53,4 +53,4 @@ pub exec-part : (front part back : List ℕ) (ss : List Store) (n : ℕ) → Eve
 unfolding exec
 exec-part front part back ss n h =
     rw (take-shifted (length front) n ss)
-      (apply-part front part back (take n ss) (every-take (λ s. s .at < length part) n ss h))
+    (apply-part front part back (take n ss) (every-take (λ s. s .at < length part) n ss h))

@@ -70,10 +70,10 @@ executed-append ss tt allowed due a due₁ a₁ due₂ a₂ p q =
     let c₁ : due₁ ≡ due + length ss = p .count in
     let c₂ : due₂ ≡ due₁ + length tt = q .count in
     let left : allowed - due₁ ≡ allowed - due - length ss = omega arith in
-    record
-      { count = rw (length-append ss tt) (omega arith)
-      ; words = q .words ∙ rw (p .words, left) (sym (exec-append ss tt (allowed - due) a))
-      }
+    record {
+      count = rw (length-append ss tt) (omega arith);
+      words = q .words ∙ rw (p .words, left) (sym (exec-append ss tt (allowed - due) a));
+    }
 
 -- ---- Reads after stores
 
@@ -98,13 +98,13 @@ word-apply M [] a h i b = refl
 word-apply M (s ∷ ss) a h i b =
     word-apply M ss (set a (s .at) (s .value)) (h .1) i (rw length-set b)
     ∙ ⊎-elim
-      (λ (t : eqb (s .at) i ≡ true).
-        let e : s .at ≡ i = eqb-true (s .at) i t in
-        let v : word (set a (s .at) (s .value)) i ≡ M i = rw e (word-set-same a i (s .value) b ∙ h .0 ∙ ap M e) in
-        rw (t, v) (same (writes ss i) (M i)))
-      (λ (t : eqb (s .at) i ≡ false).
-        rw (t, word-set-other a (s .at) i (s .value) (λ e. eqb-false (s .at) i t (sym e))))
-      (cases (eqb (s .at) i))
+    (λ (t : eqb (s .at) i ≡ true).
+    let e : s .at ≡ i = eqb-true (s .at) i t in
+    let v : word (set a (s .at) (s .value)) i ≡ M i = rw e (word-set-same a i (s .value) b ∙ h .0 ∙ ap M e) in
+    rw (t, v) (same (writes ss i) (M i)))
+    (λ (t : eqb (s .at) i ≡ false).
+    rw (t, word-set-other a (s .at) i (s .value) (λ e. eqb-false (s .at) i t (sym e))))
+    (cases (eqb (s .at) i))
   where
     same : (b : Bool) (x : ℕ) → pick b x x ≡ x
     same true x = refl

@@ -8,7 +8,6 @@ use Rattle.stores.specs.Store.{Store, exec}
 use Rattle.stores.specs.Lists.{pick}
 
 infixr 25 _then_
-
 -- What a call that changes the array is to do: its due stores, in order, and its reply once all of them are made.
 pub record Plan (R : Type 0) : Type 0 where
   pub due : List Store
@@ -32,8 +31,8 @@ pub record Outcome (R : Type 0) : Type 0 where
 -- is given; else exactly the first n are made, and the reply is `cut-off`.
 unfoldable pub cut : {R : Type 0} → R → ℕ → Plan R → List ℕ → Outcome R
 cut cut-off n p a =
-    record
-      { reply = pick (leb (length (p .due)) n) (p .reply) cut-off
-      ; made = min n (length (p .due))
-      ; after = exec (p .due) n a
-      }
+    record {
+      reply = pick (leb (length (p .due)) n) (p .reply) cut-off;
+      made = min n (length (p .due));
+      after = exec (p .due) n a;
+    }

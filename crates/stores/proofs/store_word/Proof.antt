@@ -24,20 +24,20 @@ same-length c = search needs
 
 returns : tie.Need-returns
 returns c =
-    record
-      { count = search needs
-      ; words = sym (exec-made (store (c .before .args .at) (c .before .args .value)) _ (c .before .args .words .now) (search needs))
-      }
+    record {
+      count = search needs;
+      words = sym (exec-made (store (c .before .args .at) (c .before .args .value)) _ (c .before .args .words .now) (search needs));
+    }
 
 add-result-2 : tie.Need-add-result-2
 add-result-2 c = search needs
 
 returns-2 : tie.Need-returns-2
 returns-2 c =
-    record
-      { count = search needs
-      ; words = sym (exec-not-made (store (c .before .args .at) (c .before .args .value) ∷ []) _ (c .before .args .words .now) (search needs))
-      }
+    record {
+      count = search needs;
+      words = sym (exec-not-made (store (c .before .args .at) (c .before .args .value) ∷ []) _ (c .before .args .words .now) (search needs));
+    }
 
 pub store-word-spec : {M : Type 1} → statement M
 store-word-spec =

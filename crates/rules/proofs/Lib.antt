@@ -1,0 +1,3 @@
+-- The known states, and the laws of the definitions.
+pub mod Table
+pub mod States

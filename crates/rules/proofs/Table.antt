@@ -1,0 +1,117 @@
+-- A table of facts about the definitions, as data, and the test that a row passes. antt computes the test.
+-- Assumes nothing.
+use Prim.Native.Nat.{ℕ, zero, suc, _+_, _*_}
+use mathlib.Core.Bool.{Bool, true, false, _&&_}
+use mathlib.Core.List.{List, [], _∷_, _++_}
+use lib.Dec.{eqb}
+use lib.ListN.{length, replicate, getD}
+use Rattle.stores.specs.Lists.{pick, each, firstIn, allBelow, anyBelow}
+use Rattle.stores.specs.Store.{Store, word, store, apply, exec}
+use Rattle.stores.specs.Plan.{Plan, Outcome, cut}
+use Rattle.rules.specs.declared.Call.{Call}
+use Rattle.rules.specs.declared.Call.the-variants.{Format, Put}
+use Rattle.rules.specs.Layout.{depthIn, maxDepthIn, segmentsIn, markIn, header, depth, wordsFor, validShape, validHeader, entryAddress, entryAt, segmentOf, localDepth, entry, segmentAddress}
+use Rattle.rules.specs.Keys.{bucket, bit, index, width, blockBits, blockStart, live, windowBucket, slotsOf, window}
+use Rattle.rules.specs.Scan.{inRange, validLeader, ledBy, leadersFrom, nextLeader, leader, leaders, leadersValid, entriesAgree, consistent}
+use Rattle.rules.specs.Slots.{hit, usable, firstUsable, chosen, choose, named, freeSegment}
+use Rattle.rules.specs.Replies.{Said, done, absent, refused, unless, tested, replied}
+use Rattle.rules.specs.Format.{formatTests, formatStores, format}
+use Rattle.rules.specs.Get.{keyEntry, keySegment, keyTests, getTests, valueAtHit, get}
+use Rattle.rules.specs.Split.{doubling, moves, copySlot, copying, halfEntry, updating, halvingOf, halving, doublingFor, splitting}
+use Rattle.rules.specs.Put.{directoryTests, putTests, keyChoice, placed, intoFree, putUnused, unused, put}
+use Rattle.rules.specs.Remove.{removeTests, clearedAt, remove}
+use Rattle.rules.specs.Mend.{mendTests, mendEntry, mending, mend}
+use Rattle.rules.specs.Listing.{liveRecord, blockRecords, records, wordsOf, listTests, list}
+use Rattle.rules.specs.Step.{changed, step}
+
+-- ---- Rows
+
+-- An entry to be seen: the segment it names, and its local depth.
+pub record Names : Type 0 where
+  pub segment : ℕ
+  pub depth : ℕ
+
+-- A lookup to be made, and what it is to say.
+pub record Lookup : Type 0 where
+  pub key : ℕ
+  pub said : Said
+
+-- A state. `lent` words, all 0, are lent; the calls `before` are made, then the stores `damage`; then `call`, with a list
+-- array of `room` words. It is to say `said` with `made` stores; and afterwards `words` are to stand at their addresses,
+-- `entries` in the present directory from index 0 on, and `lookups` to answer so.
+pub record State : Type 0 where
+  pub lent : ℕ
+  pub before : List Call
+  pub damage : List Store
+  pub room : ℕ
+  pub call : Call
+  pub said : Said
+  pub made : ℕ
+  pub words : List Store
+  pub entries : List Names
+  pub lookups : List Lookup
+
+pub data Row : Type 0 where
+  -- the buckets of the key's probe window
+  buckets : (key : ℕ) → List ℕ → Row
+  -- the key's index in the directory of this depth
+  indexed : (depth key i : ℕ) → Row
+  state : State → Row
+
+-- ---- The test
+
+numbersAgree : List ℕ → List ℕ → Bool
+numbersAgree [] [] = true
+numbersAgree [] (y ∷ ys) = false
+numbersAgree (x ∷ xs) [] = false
+numbersAgree (x ∷ xs) (y ∷ ys) = eqb x y && numbersAgree xs ys
+
+saidAgree : Said → Said → Bool
+saidAgree (done xs) (done ys) = numbersAgree xs ys
+saidAgree (done xs) absent = false
+saidAgree (done xs) (refused n) = false
+saidAgree absent (done ys) = false
+saidAgree absent absent = true
+saidAgree absent (refused n) = false
+saidAgree (refused m) (done ys) = false
+saidAgree (refused m) absent = false
+saidAgree (refused m) (refused n) = eqb m n
+
+-- The array after some calls, each made with no list array.
+afterCalls : List ℕ → List Call → List ℕ
+afterCalls a [] = a
+afterCalls a (c ∷ cs) = afterCalls ((step a 0 c) .after) cs
+
+wordsSeen : List ℕ → List Store → Bool
+wordsSeen a [] = true
+wordsSeen a (s ∷ ss) = eqb (word a (s .at)) (s .value) && wordsSeen a ss
+
+entriesSeen : List ℕ → (i : ℕ) → List Names → Bool
+entriesSeen a i [] = true
+entriesSeen a i (n ∷ ns) =
+    (eqb (segmentOf (entryAt a (depth a) i)) (n .segment) && eqb (localDepth (entryAt a (depth a) i)) (n .depth))
+    && entriesSeen a (suc i) ns
+
+lookupsSeen : List ℕ → List Lookup → Bool
+lookupsSeen a [] = true
+lookupsSeen a (l ∷ ls) = saidAgree (get a (l .key)) (l .said) && lookupsSeen a ls
+
+outcomePasses : State → Outcome Said → Bool
+outcomePasses s o =
+    (saidAgree (o .reply) (s .said) && eqb (o .made) (s .made))
+    && (wordsSeen (o .after) (s .words) && (entriesSeen (o .after) 0 (s .entries) && lookupsSeen (o .after) (s .lookups)))
+
+windowBuckets : (key : ℕ) → List ℕ
+windowBuckets key = each (λ b. windowBucket key b ∷ []) 4
+
+passes : Row → Bool
+passes (buckets key bs) = numbersAgree (windowBuckets key) bs
+passes (indexed g key i) = eqb (index key g) i
+passes (state s) =
+    outcomePasses s (step (apply (s .damage) (afterCalls (replicate (s .lent) 0) (s .before))) (s .room) (s .call))
+
+-- Every row of the table passes.
+unfoldable pub allPass : List Row → Bool
+unfolding each firstIn allBelow anyBelow apply exec cut depthIn maxDepthIn segmentsIn markIn header wordsFor validShape validHeader entryAddress segmentOf localDepth entry segmentAddress bucket bit index width blockBits blockStart live windowBucket slotsOf window inRange validLeader nextLeader leader leadersValid entriesAgree hit usable firstUsable chosen choose named freeSegment unless tested replied formatTests formatStores format keyEntry keySegment keyTests getTests valueAtHit get doubling moves copySlot copying halfEntry updating halvingOf halving doublingFor splitting directoryTests putTests keyChoice placed intoFree putUnused unused put removeTests clearedAt remove mendTests mendEntry mending mend liveRecord blockRecords records listTests list changed step numbersAgree saidAgree afterCalls wordsSeen entriesSeen lookupsSeen outcomePasses windowBuckets passes
+allPass [] = true
+allPass (r ∷ rs) = passes r && allPass rs
