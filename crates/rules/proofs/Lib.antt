@@ -1,3 +1,4 @@
 -- The known states, and the laws of the definitions.
 pub mod Table
 pub mod States
+pub mod Samples

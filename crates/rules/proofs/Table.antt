@@ -36,27 +36,17 @@ pub record Lookup : Type 0 where
   pub key : ℕ
   pub said : Said
 
--- A state. `lent` words, all 0, are lent; the calls `before` are made, then the stores `damage`; then `call`, with a list
--- array of `room` words. It is to say `said` with `made` stores; and afterwards `words` are to stand at their addresses,
--- `entries` in the present directory from index 0 on, and `lookups` to answer so.
-pub record State : Type 0 where
-  pub lent : ℕ
-  pub before : List Call
-  pub damage : List Store
-  pub room : ℕ
-  pub call : Call
-  pub said : Said
-  pub made : ℕ
-  pub words : List Store
-  pub entries : List Names
-  pub lookups : List Lookup
-
 pub data Row : Type 0 where
   -- the buckets of the key's probe window
   buckets : (key : ℕ) → List ℕ → Row
   -- the key's index in the directory of this depth
   indexed : (depth key i : ℕ) → Row
-  state : State → Row
+  -- A state. `lent` words, all 0, are lent; the calls `before` are made, then the stores `damage`; then `call`, with a list
+  -- array of `room` words. It is to say `said` with `made` stores; and afterwards `words` are to stand at their addresses,
+  -- `entries` in the present directory from index 0 on, and `lookups` to answer so.
+  state : (lent : ℕ) (before : List Call) (damage : List Store) (room : ℕ) (call : Call) (said : Said) (made : ℕ)
+      (words : List Store) (entries : List Names) (lookups : List Lookup)
+      → Row
 
 -- ---- The test
 
@@ -96,10 +86,10 @@ lookupsSeen : List ℕ → List Lookup → Bool
 lookupsSeen a [] = true
 lookupsSeen a (l ∷ ls) = saidAgree (get a (l .key)) (l .said) && lookupsSeen a ls
 
-outcomePasses : State → Outcome Said → Bool
-outcomePasses s o =
-    (saidAgree (o .reply) (s .said) && eqb (o .made) (s .made))
-    && (wordsSeen (o .after) (s .words) && (entriesSeen (o .after) 0 (s .entries) && lookupsSeen (o .after) (s .lookups)))
+outcomePasses : Outcome Said → Said → ℕ → List Store → List Names → List Lookup → Bool
+outcomePasses o said made words entries lookups =
+    (saidAgree (o .reply) said && eqb (o .made) made)
+    && (wordsSeen (o .after) words && (entriesSeen (o .after) 0 entries && lookupsSeen (o .after) lookups))
 
 windowBuckets : (key : ℕ) → List ℕ
 windowBuckets key = each (λ b. windowBucket key b ∷ []) 4
@@ -107,8 +97,8 @@ windowBuckets key = each (λ b. windowBucket key b ∷ []) 4
 passes : Row → Bool
 passes (buckets key bs) = numbersAgree (windowBuckets key) bs
 passes (indexed g key i) = eqb (index key g) i
-passes (state s) =
-    outcomePasses s (step (apply (s .damage) (afterCalls (replicate (s .lent) 0) (s .before))) (s .room) (s .call))
+passes (state lent before damage room call said made words entries lookups) =
+    outcomePasses (step (apply damage (afterCalls (replicate lent 0) before)) room call) said made words entries lookups
 
 -- Every row of the table passes.
 unfoldable pub allPass : List Row → Bool

@@ -1,0 +1,114 @@
+-- Further states, by the test of the known states: damaged arrays, cuts, stale records, listings, and what else document 01's
+-- sentences say and its table does not show.
+-- Assumes nothing.
+use Prim.Native.Nat.{ℕ, zero, suc, _+_, _*_}
+use mathlib.Core.Path.{_≡_, refl}
+use mathlib.Core.Bool.{true}
+use mathlib.Core.List.{List, [], _∷_, _++_}
+use Rattle.stores.specs.Lists.{each}
+use Rattle.stores.specs.Store.{Store, store}
+use Rattle.rules.specs.declared.Call.{Call}
+use Rattle.rules.specs.declared.Call.the-variants.{Format, Get, Put, Remove, Mend, List as ListCall}
+use Rattle.rules.specs.Replies.{Said, done, absent, refused}
+use Rattle.rules.proofs.Table.{Names, Lookup, Row, state, allPass}
+use Rattle.rules.proofs.States.{F, P, fill, stands, names, page, missing, pages, row, sixteen, P263}
+
+-- ---- Damage to an index of D = 2, S = 4
+
+-- Word 0 with present depth G.
+abbrev present : (G : ℕ) → Store
+present G = store 0 (0x5041474500040200 + G)
+
+-- Entry i of the directory of depth 1 or 2, which start at words 2 and 4, names segment s with local depth L.
+abbrev entry₁ : (i s L : ℕ) → Store
+entry₁ i s L = store (2 + i) (s + 0x100000000 * L)
+
+abbrev entry₂ : (i s L : ℕ) → Store
+entry₂ i s L = store (4 + i) (s + 0x100000000 * L)
+
+-- Four entries of depth 2.
+abbrev four : (s₀ L₀ s₁ L₁ s₂ L₂ s₃ L₃ : ℕ) → List Store
+four s₀ L₀ s₁ L₁ s₂ L₂ s₃ L₃ = present 2 ∷ entry₂ 0 s₀ L₀ ∷ entry₂ 1 s₁ L₁ ∷ entry₂ 2 s₂ L₂ ∷ entry₂ 3 s₃ L₃ ∷ []
+
+-- The page of a key in slot j of segment 0, which starts at word 8.
+abbrev slot : (j key : ℕ) → List Store
+slot j key = store (8 + 2 * j) key ∷ store (9 + 2 * j) (10 * key) ∷ []
+
+-- Slots 28 to 43 of segment 0 with sixteen keys whose first directory bit is 0.
+abbrev fullLeft : List Store
+fullLeft = each (λ i. slot (28 + i) (7 + 32 * i)) 16
+
+-- A call on an index with damage.
+abbrev damaged : List Store → Call → Said → (made : ℕ) → List Store → List Names → List Lookup → Row
+damaged damage call said made words entries lookups =
+    state 520 (F 4 ∷ []) damage 0 call said made words entries lookups
+
+-- A list with a list array of `room` words.
+abbrev listed : List Call → (room : ℕ) → Said → Row
+listed before room said = state 520 before [] room ListCall said 0 [] [] []
+
+pub samples : List Row
+unfolding each
+samples =
+    -- the search goes on behind an empty slot
+    row 520 (F 4 ∷ P 7 ∷ P 23 ∷ Remove 7 10000 ∷ []) (Get 23) (done (230 ∷ [])) 0 [] [] (missing 7 ∷ [])
+    -- the window goes on from bucket 15 to bucket 0
+    ∷ row 520 (F 4 ∷ fill 15 16 4) (P 79) (done []) 2 (stands 8 79 ∷ stands 9 790 ∷ []) [] (pages 15 16 5)
+    -- a put of a key that is there stores its value, and a remove clears the key word alone
+    ∷ row 520 (F 4 ∷ P 7 ∷ []) (Put 7 71 1) (done []) 1 (stands 64 7 ∷ stands 65 71 ∷ []) [] []
+    ∷ row 520 (F 4 ∷ P 7 ∷ []) (Remove 7 1) (done []) 1 (stands 64 0 ∷ stands 65 70 ∷ []) [] (missing 7 ∷ [])
+    -- with no store allowed: a store that is due is cut off, what needs none is done or absent
+    ∷ row 520 (F 4 ∷ P 7 ∷ []) (Put 7 70 0) (refused 7) 0 [] [] (page 7 ∷ [])
+    ∷ row 520 (F 4 ∷ P 7 ∷ []) (Remove 7 0) (refused 7) 0 [] [] (page 7 ∷ [])
+    ∷ row 520 (F 4 ∷ P 7 ∷ []) (Remove 23 0) absent 0 [] [] (page 7 ∷ [])
+    ∷ row 520 (F 4 ∷ P 7 ∷ []) (Mend 0) (done []) 0 [] [] (page 7 ∷ [])
+    -- a format cut before its last store leaves no index; a whole one takes any array
+    ∷ row 520 [] (Format 2 4 66) (refused 7) 66 (stands 0 0 ∷ []) [] (record { key = 7; said = refused 1 } ∷ [])
+    ∷ state 520 [] (store 0 5 ∷ store 1 5 ∷ store 64 7 ∷ []) 0 (F 4) (done []) 67 (stands 1 0 ∷ stands 64 0 ∷ []) (names 0 0 ∷ []) (missing 7 ∷ [])
+    -- the copy step stores value, then key
+    ∷ row 520 (sixteen 4) (P263 33) (refused 7) 33 (stands 195 230 ∷ stands 194 0 ∷ []) [] []
+    ∷ row 520 (sixteen 4) (P263 34) (refused 7) 34 (stands 195 230 ∷ stands 194 23 ∷ []) [] []
+    -- a split leaves a stale record where it is, and clears its slot in the new segment
+    ∷ damaged (present 1 ∷ entry₁ 0 0 1 ∷ entry₁ 1 1 1 ∷ slot 0 48 ++ (store 264 9 ∷ fullLeft)) (P 519) (done []) 81 (stands 8 48 ∷ stands 264 0 ∷ [])
+    (names 0 2 ∷ names 2 2 ∷ names 1 1 ∷ names 1 1 ∷ [])
+    (pages 7 32 17)
+    -- the free segment is the smallest that no entry names
+    ∷ damaged (present 1 ∷ entry₁ 0 0 1 ∷ entry₁ 1 2 1 ∷ fullLeft) (P 519) (done []) 81 [] (names 0 2 ∷ names 1 2 ∷ names 2 1 ∷ names 2 1 ∷ []) []
+    -- mending gives each entry its leader's word, also where the entry to its left was wrong
+    ∷ damaged (four 0 0 1 1 1 1 1 1) (Mend 10000) (done []) 3 [] (names 0 0 ∷ names 0 0 ∷ names 0 0 ∷ names 0 0 ∷ []) []
+    ∷ damaged (four 0 0 1 1 1 1 1 1) (Mend 2) (refused 7) 2 [] (names 0 0 ∷ names 0 0 ∷ names 0 0 ∷ names 1 1 ∷ []) []
+    -- 3 before 4: the scan goes to the end; a get looks at its own entry alone
+    ∷ damaged (four 0 1 1 1 9 1 9 1) (P 7) (refused 3) 0 [] [] (missing 7 ∷ record { key = 23; said = refused 3 } ∷ [])
+    ∷ damaged (four 0 1 1 1 9 1 9 1) (Remove 7 10000) (refused 3) 0 [] [] []
+    ∷ damaged (four 0 1 1 1 9 1 9 1) (Mend 10000) (refused 3) 0 [] [] []
+    ∷ damaged (four 0 1 1 1 9 1 9 1) ListCall (refused 3) 0 [] [] []
+    -- 4 where the leaders are valid and an entry differs from its leader; 2 before 4
+    ∷ damaged (four 0 1 1 1 2 1 2 1) (P 7) (refused 4) 0 [] [] []
+    ∷ damaged (four 0 1 1 1 2 1 2 1) (Remove 7 10000) (refused 4) 0 [] [] []
+    ∷ damaged (four 0 1 1 1 2 1 2 1) ListCall (refused 4) 0 [] [] []
+    ∷ damaged (four 0 1 1 1 2 1 2 1) (P 0) (refused 2) 0 [] [] []
+    ∷ damaged (four 0 1 1 1 2 1 2 1) (Remove 0 10000) (refused 2) 0 [] [] []
+    -- a leader that is too deep, and one whose index is no multiple of its width
+    ∷ damaged (store 1 0x100000000 ∷ []) (P 7) (refused 3) 0 [] [] (record { key = 7; said = refused 3 } ∷ [])
+    ∷ damaged (four 0 2 1 1 1 1 2 2) (P 7) (refused 3) 0 [] [] []
+    -- 1 before 2: no mark; G above D; S above 2^D; D above 12; an array too short by one word; an array of no words
+    ∷ damaged (store 0 0 ∷ []) (P 0) (refused 1) 0 [] [] (record { key = 0; said = refused 1 } ∷ [])
+    ∷ damaged (store 0 0x5041474500040203 ∷ []) (P 7) (refused 1) 0 [] [] []
+    ∷ damaged (store 0 0x5041474500050200 ∷ []) (Mend 10000) (refused 1) 0 [] [] []
+    ∷ damaged (store 0 0x5041474500040d00 ∷ []) ListCall (refused 1) 0 [] [] []
+    ∷ state 519 [] (store 0 0x5041474500040200 ∷ []) 0 (Remove 7 10000) (refused 1) 0 [] [] []
+    ∷ row 0 [] (P 7) (refused 1) 0 [] [] []
+    ∷ row 0 [] (F 4) (refused 9) 0 [] [] []
+    -- a get of key 0
+    ∷ row 520 (F 4 ∷ []) (Get 0) (refused 2) 0 [] [] []
+    -- a list has every live record once, no stale one, and needs two words for each
+    ∷ listed (F 4 ∷ []) 0 (done (0 ∷ []))
+    ∷ listed (sixteen 4) 32 (done (16 ∷ []))
+    ∷ listed (sixteen 4) 31 (refused 10)
+    ∷ listed (sixteen 4 ++ (P263 10000 ∷ [])) 34 (done (17 ∷ []))
+    ∷ listed (sixteen 4 ++ (P263 10000 ∷ [])) 33 (refused 10)
+    ∷ []
+
+pub samples-pass : allPass samples ≡ true
+unfolding allPass samples
+samples-pass = refl
