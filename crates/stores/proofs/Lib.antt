@@ -1,4 +1,5 @@
 -- The laws of stores, plans and their lists.
+pub mod Samples
 pub mod Tests
 pub mod Lists
 pub mod Stores

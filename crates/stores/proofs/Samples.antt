@@ -1,0 +1,27 @@
+-- A plan of three stores on an array of three words, under each allowance: a table that antt computes from the definitions.
+-- Assumes nothing.
+use Prim.Native.Nat.{ℕ}
+use mathlib.Core.Path.{_≡_, refl}
+use mathlib.Core.List.{List, [], _∷_}
+use Rattle.stores.specs.Store.{store, apply, exec, shifted}
+use Rattle.stores.specs.Plan.{Plan, Outcome, cut}
+
+-- Two stores at address 1, and one between them at address 2; the reply is 0.
+abbrev pub plan : Plan ℕ
+plan = record { due = store 1 10 ∷ store 2 20 ∷ store 1 11 ∷ []; reply = 0 }
+
+abbrev pub under : (allowance : ℕ) → Outcome ℕ
+under allowance = cut 7 allowance plan (5 ∷ 0 ∷ 0 ∷ [])
+
+abbrev pub outcome : (reply made x y z : ℕ) → Outcome ℕ
+outcome reply made x y z = record { reply = reply; made = made; after = x ∷ y ∷ z ∷ [] }
+
+pub cuts : _≡_ {A = List (Outcome ℕ)} (under 0 ∷ under 1 ∷ under 2 ∷ under 3 ∷ under 4 ∷ [])
+    (outcome 7 0 5 0 0 ∷ outcome 7 1 5 10 0 ∷ outcome 7 2 5 10 20 ∷ outcome 0 3 5 11 20 ∷ outcome 0 3 5 11 20 ∷ [])
+unfolding cut exec apply
+cuts = refl
+
+-- Two stores in the part that starts at address 1.
+pub in-a-part : apply (shifted 1 (store 0 8 ∷ store 1 9 ∷ [])) (5 ∷ 0 ∷ 0 ∷ []) ≡ 5 ∷ 8 ∷ 9 ∷ []
+unfolding apply shifted
+in-a-part = refl
