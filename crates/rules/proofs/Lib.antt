@@ -2,3 +2,5 @@
 pub mod Table
 pub mod States
 pub mod Samples
+pub mod Keys
+pub mod Scan

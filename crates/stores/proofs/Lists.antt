@@ -2,13 +2,13 @@
 -- Assumes nothing.
 use mathlib.Core.Path.{_≡_, refl, sym, ap, ap₂, _∙_}
 use mathlib.Core.Bool.{Bool, true, false, _&&_, _||_, true≢false, false≢true}
-use mathlib.Core.List.{List, [], _∷_, _++_, List·Memᴰ, List·Memᴰ·head, List·Memᴰ·tail}
+use mathlib.Core.List.{List, [], _∷_, _++_, List·Memᴰ, List·Memᴰ·head, List·Memᴰ·tail, List·Memᴰ·not-nil, List·Memᴰ·append-cases, Memᴰ·append-left, Memᴰ·append-right}
 use mathlib.Core.Option.{Option, none, some}
 use mathlib.Core.Logic.{_⊎_, inl, inr, ⊎-elim}
 use Prim.Native.Nat.{ℕ, zero, suc, _+_, _*_, _≤_, _<_}
 use native.Mathlib.Nat.{le-refl, not-suc-le-zero, eq-or-lt-of-le, le-of-suc-le-suc, le-step, add-zero, add-suc, mul-zero, mul-suc}
 use native.Mathlib.Omega.{arith}
-use lib.ListN.{length, length-append}
+use lib.ListN.{length, take, length-append}
 use Rattle.stores.specs.Lists.{pick, each, firstIn, allBelow, anyBelow}
 use Rattle.stores.specs.Store.{Store, Every}
 use Rattle.stores.proofs.Tests.{cases, and-left, and-right, and-true, or-cases, or-left, or-right}
@@ -44,6 +44,25 @@ length-each-ones f zero = refl
 length-each-ones f (suc n) =
     length-append (each (λ i. f i ∷ []) n) (f n ∷ []) ∙ ap (λ (k : ℕ). k + 1) (length-each-ones f n) ∙ omega arith
 
+-- An element of the joined list is an element of one of the lists, and the other way round.
+pub mem-each : {A : Type 0} (x : A) (f : ℕ → List A) (n : ℕ) → List·Memᴰ x (each f n) → (i : ℕ) × (i < n) × List·Memᴰ x (f i)
+unfolding each
+mem-each x f zero m = absurd (List·Memᴰ·not-nil m)
+mem-each x f (suc n) m =
+    ⊎-elim
+    (λ (k : List·Memᴰ x (each f n)). let r = mem-each x f n k in (r .0, le-step (r .1), r .2))
+    (λ (k : List·Memᴰ x (f n)). (n, le-refl (suc n), k))
+    (List·Memᴰ·append-cases (each f n) m)
+
+pub each-mem : {A : Type 0} (x : A) (f : ℕ → List A) (n i : ℕ) → i < n → List·Memᴰ x (f i) → List·Memᴰ x (each f n)
+unfolding each
+each-mem x f zero i h m = absurd (not-suc-le-zero h)
+each-mem x f (suc n) i h m =
+    ⊎-elim
+    (λ (e : i ≡ n). Memᴰ·append-right (each f n) (rw e at m))
+    (λ (k : i < n). Memᴰ·append-left (f n) (each-mem x f n i k m))
+    (eq-or-lt-of-le (le-of-suc-le-suc h))
+
 -- ---- Every store
 
 pub every-append : (P : Store → Type 0) (ss tt : List Store) → Every P ss → Every P tt → Every P (ss ++ tt)
@@ -53,6 +72,11 @@ every-append P (s ∷ ss) tt h k = (h .0, every-append P ss tt (h .1) k)
 pub every-left : (P : Store → Type 0) (ss tt : List Store) → Every P (ss ++ tt) → Every P ss
 every-left P [] tt h = Prim.tt
 every-left P (s ∷ ss) tt h = (h .0, every-left P ss tt (h .1))
+
+pub every-take : (P : Store → Type 0) (n : ℕ) (ss : List Store) → Every P ss → Every P (take n ss)
+every-take P zero ss h = Prim.tt
+every-take P (suc n) [] h = Prim.tt
+every-take P (suc n) (s ∷ ss) h = (h .0, every-take P n ss (h .1))
 
 pub every-each : (P : Store → Type 0) (f : ℕ → List Store) (n : ℕ) → ((i : ℕ) → i < n → Every P (f i)) → Every P (each f n)
 unfolding each

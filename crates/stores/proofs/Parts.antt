@@ -7,7 +7,7 @@ use native.Mathlib.Omega.{arith}
 use lib.ListN.{length, set, take, drop, length-set, length-append, length-take, length-drop}
 use lib.Seq.{set-append-left}
 use Rattle.stores.specs.Store.{Store, store, apply, exec, shifted, Every}
-use Rattle.stores.proofs.Lists.{every-left}
+use Rattle.stores.proofs.Lists.{every-take}
 
 -- A store behind the front xs.
 set-behind : (xs ys : List ℕ) (i v : ℕ) → set (xs ++ ys) (length xs + i) v ≡ xs ++ set ys i v
@@ -41,11 +41,6 @@ unfolding shifted
 take-shifted base zero ss = refl
 take-shifted base (suc n) [] = refl
 take-shifted base (suc n) (s ∷ ss) = ap (λ (r : List Store). store (base + s .at) (s .value) ∷ r) (take-shifted base n ss)
-
-every-take : (P : Store → Type 0) (n : ℕ) (ss : List Store) → Every P ss → Every P (take n ss)
-every-take P zero ss h = Prim.tt
-every-take P (suc n) [] h = Prim.tt
-every-take P (suc n) (s ∷ ss) h = (h .0, every-take P n ss (h .1))
 
 -- The same under an allowance.
 pub exec-part : (front part back : List ℕ) (ss : List Store) (n : ℕ) → Every (λ s. s .at < length part) ss

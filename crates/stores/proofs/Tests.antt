@@ -1,6 +1,6 @@
 -- Tests that are true or false: which parts of them hold, and how they are split by cases.
 -- Assumes nothing.
-use mathlib.Core.Path.{_≡_, refl}
+use mathlib.Core.Path.{_≡_, refl, sym}
 use mathlib.Core.Bool.{Bool, true, false, _&&_, _||_, false≢true}
 use mathlib.Core.Logic.{_⊎_, inl, inr}
 
@@ -30,3 +30,9 @@ or-right false e = e
 
 pub or-left : {a : Bool} (b : Bool) → a ≡ true → a || b ≡ true
 or-left b e = rw e
+
+-- Two tests that imply each other are equal.
+pub same-test : (p q : Bool) → (p ≡ true → q ≡ true) → (q ≡ true → p ≡ true) → p ≡ q
+same-test true q f b = sym (f refl)
+same-test false true f b = b refl
+same-test false false f b = refl
