@@ -2,5 +2,10 @@
 pub mod Table
 pub mod States
 pub mod Samples
+pub mod Words
 pub mod Keys
 pub mod Scan
+pub mod Split
+pub mod Put
+pub mod Bound
+pub mod Full

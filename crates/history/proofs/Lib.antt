@@ -1,0 +1,3 @@
+-- The proof of the history rule.
+pub mod Holds
+pub mod Invariant
