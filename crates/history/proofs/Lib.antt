@@ -1,3 +1,4 @@
 -- The proof of the history rule.
 pub mod Holds
 pub mod Invariant
+pub mod Recover
