@@ -2,3 +2,4 @@
 pub mod Holds
 pub mod Invariant
 pub mod Recover
+pub mod Changes

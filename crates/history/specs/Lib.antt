@@ -2,4 +2,5 @@
 pub mod Map
 pub mod Run
 pub mod History
+pub mod Listing
 pub mod Check

@@ -9,3 +9,5 @@ pub mod Split
 pub mod Put
 pub mod Bound
 pub mod Full
+pub mod Range
+pub mod Local

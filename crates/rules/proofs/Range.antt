@@ -1,0 +1,190 @@
+-- No plan stores outside the words that D and S take, on any array; and every call keeps the array's length.
+-- Assumes nothing.
+use mathlib.Core.Path.{_≡_, refl}
+use mathlib.Core.Bool.{Bool, true, false, _&&_}
+use mathlib.Core.List.{List, [], _∷_}
+use mathlib.Core.Option.{Option, none, some}
+use Prim.Native.Nat.{ℕ, suc, _^_, _≤_, _<_}
+use native.Mathlib.Omega.{arith}
+use borrow.Author.Tests.{leb-true}
+use lib.Dec.{leb, eqb}
+use lib.ListN.{length, take}
+use lib.Pow.{pow-mono}
+use Rattle.stores.specs.Lists.{pick, each}
+use Rattle.stores.specs.Store.{Store, word, store, apply, Every}
+use Rattle.stores.specs.Plan.{Plan}
+use Rattle.stores.proofs.Tests.{and-left, and-right}
+use Rattle.stores.proofs.Lists.{every-append, every-each, every-map, first-some}
+use Rattle.stores.proofs.Stores.{word-elsewhere}
+use Rattle.stores.proofs.Lists.{every-take}
+use Rattle.stores.proofs.Plans.{after-cut, length-cut}
+use Rattle.rules.specs.declared.Refusal.{Refusal}
+use Rattle.rules.specs.declared.Refusal.the-variants.{NoStore, CutOff, BadShape}
+use Rattle.rules.specs.declared.Call.{Call}
+use Rattle.rules.specs.declared.Call.the-variants.{Format, Get, Put, Remove, Mend, List as ListCall}
+use Rattle.rules.specs.Layout.{header, depth, maxDepth, segments, wordsFor, validShape, validHeader, entryAddress, entryAt, segmentOf, segmentAddress, keyAddress, valueAddress}
+use Rattle.rules.specs.Keys.{window}
+use Rattle.rules.specs.Scan.{leadingEntry}
+use Rattle.rules.specs.Slots.{hit, usable, firstUsable}
+use Rattle.rules.specs.Replies.{Said, done, refuse, tested}
+use Rattle.rules.specs.Format.{formatTests, formatStores, format}
+use Rattle.rules.specs.Get.{keyEntry, keySegment}
+use Rattle.rules.specs.Split.{splitting}
+use Rattle.rules.specs.Put.{putTests, put}
+use Rattle.rules.specs.Remove.{removeTests, clearedAt, remove}
+use Rattle.rules.specs.Mend.{mendTests, mendEntry, mending, mend}
+use Rattle.rules.specs.Step.{changed, step}
+use Rattle.rules.proofs.Words.{ValidHeader, valid-header, entry-inside, key-inside, value-inside, directories-below}
+use Rattle.rules.proofs.Keys.{window-lt}
+use Rattle.rules.proofs.Split.{splitting-in-range, AfterSplit, after-split}
+use Rattle.rules.proofs.Put.{unless-none, passed, choice-found, choice-into, put-induction}
+
+-- The store is below the words that D and S take.
+abbrev pub Below : (D S : ℕ) → Store → Type 0
+Below D S s = s .at < wordsFor D S
+
+-- A plan behind tests: what holds of its stores where the tests pass, holds of the stores due.
+tested-every : (P : Store → Type 0) (o : Option Refusal) (p : Plan Said) → (o ≡ none → Every P (p .due)) → Every P (tested o p .due)
+unfolding tested
+tested-every P none p h = h refl
+tested-every P (some r) p h = Prim.tt
+
+-- ---- Format
+
+-- A valid shape has a segment.
+shape-segment : (D S : ℕ) → validShape D S ≡ true → 1 ≤ S
+unfolding validShape
+shape-segment D S e =
+    let h : leb 1 S && leb S (2 ^ D) ≡ true = and-right (leb 2 D && leb D 12) (leb 1 S && leb S (2 ^ D)) e in
+    leb-true 1 S (and-left (leb 1 S) (leb S (2 ^ D)) h)
+
+pub format-range : (a : List ℕ) (D S : ℕ) → Every (Below D S) ((format a D S) .due)
+unfolding format formatTests formatStores
+format-range a D S =
+    tested-every (Below D S) (formatTests a D S) (record { due = formatStores D S; reply = done [] })
+    (λ e.
+    let s : 1 ≤ S = shape-segment D S (unless-none (validShape D S) BadShape _ e .0) in
+    let two : 2 ^ 1 ≤ 2 ^ suc D = pow-mono {i = 1} {j = suc D} (omega arith) in
+    let below : 2 ^ suc D ≤ wordsFor D S = directories-below D S in (
+      omega arith,
+      (
+        omega arith,
+        every-append (Below D S) (each (λ j. store (keyAddress (segmentAddress D 0) j) 0 ∷ []) 64) (store 0 (header 0 D S) ∷ [])
+            (every-each (Below D S) (λ j. store (keyAddress (segmentAddress D 0) j) 0 ∷ []) 64
+            (λ j h. (key-inside D S 0 j s h .below, Prim.tt)))
+            (omega arith, Prim.tt),
+      ),
+    ))
+
+-- ---- The slots that a search finds
+
+pub hit-slot : (a : List ℕ) (base key j : ℕ) → hit a base key ≡ some j → j < 64
+unfolding hit
+hit-slot a base key j e = window-lt key j (first-some (λ j. eqb (word a (keyAddress base j)) key) (window key) j e .0)
+
+pub usable-slot : (a : List ℕ) (base L bits key j : ℕ) → firstUsable a base L bits key ≡ some j → j < 64
+unfolding firstUsable
+usable-slot a base L bits key j e = window-lt key j (first-some (usable a base L bits) (window key) j e .0)
+
+module _ (a : List ℕ) (key j : ℕ) (s : segmentOf (keyEntry a key) < segments a) (h : j < 64) where
+  key-below : keyAddress (keySegment a key) j < wordsFor (maxDepth a) (segments a)
+  unfolding keySegment
+  key-below = key-inside (maxDepth a) (segments a) (segmentOf (keyEntry a key)) j s h .below
+
+  value-below : valueAddress (keySegment a key) j < wordsFor (maxDepth a) (segments a)
+  unfolding keySegment
+  value-below = value-inside (maxDepth a) (segments a) (segmentOf (keyEntry a key)) j s h .below
+
+-- ---- Put, remove and mend
+
+pub put-range : (a : List ℕ) (key value : ℕ) → Every (Below (maxDepth a) (segments a)) ((put a key value) .due)
+put-range a key value =
+    put-induction key value (λ a p. Every (Below (maxDepth a) (segments a)) (p .due))
+    (record {
+      when-refused = λ a r e. Prim.tt;
+      when-found = λ a j p c. (value-below a key j (p .segment-below) (hit-slot a _ key j (choice-found a key j c)), Prim.tt);
+      when-into = λ a j p c.
+          let h : j < 64 = usable-slot a _ _ _ key j (choice-into a key j c .1) in
+          (value-below a key j (p .segment-below) h, (key-below a key j (p .segment-below) h, Prim.tt));
+      when-deep = λ a p c d. Prim.tt;
+      when-none = λ a p c d f. Prim.tt;
+      when-split = λ a n p c f s behind.
+          let b : List ℕ = apply (splitting a key n) a in
+          let k : AfterSplit a key n b = after-split a key n s in
+          every-append (Below (maxDepth a) (segments a)) (splitting a key n) (put b key value .due) (splitting-in-range a key n s)
+          (rw (k .maxDepth-kept, k .segments-kept) at behind);
+    })
+    a
+
+cleared-every : (P : Store → Type 0) (base : ℕ) (o : Option ℕ)
+    → ((j : ℕ) → o ≡ some j → P (store (keyAddress base j) 0)) → Every P (clearedAt base o .due)
+unfolding clearedAt
+cleared-every P base none h = Prim.tt
+cleared-every P base (some j) h = (h j refl, Prim.tt)
+
+pub remove-range : (a : List ℕ) (key : ℕ) → Every (Below (maxDepth a) (segments a)) ((remove a key) .due)
+unfolding remove removeTests putTests
+remove-range a key =
+    tested-every (Below (maxDepth a) (segments a)) (removeTests a key) (clearedAt (keySegment a key) (hit a (keySegment a key) key))
+    (λ e.
+    cleared-every (Below (maxDepth a) (segments a)) (keySegment a key) (hit a (keySegment a key) key)
+    (λ j k. key-below a key j (passed a key e .segment-below) (hit-slot a (keySegment a key) key j k)))
+
+pub mend-range : (a : List ℕ) → Every (Below (maxDepth a) (segments a)) ((mend a) .due)
+unfolding mend mendTests mending mendEntry
+mend-range a =
+    tested-every (Below (maxDepth a) (segments a)) (mendTests a) (record { due = mending a; reply = done [] })
+    (λ e.
+    let v : ValidHeader a = valid-header a (unless-none (validHeader a) NoStore _ e .0) in
+    every-each (Below (maxDepth a) (segments a)) (mendEntry a (depth a)) (2 ^ depth a)
+    (λ i h.
+    one (eqb (entryAt a (depth a) i) (leadingEntry a (depth a) i)) (store (entryAddress (depth a) i) (leadingEntry a (depth a) i))
+    (omega (arith, entry-inside (maxDepth a) (depth a) i (v .present) h, directories-below (maxDepth a) (segments a)))))
+  where
+    one : (t : Bool) (s : Store) → Below (maxDepth a) (segments a) s → Every (Below (maxDepth a) (segments a)) (pick t [] (s ∷ []))
+    one true s h = Prim.tt
+    one false s h = (h, Prim.tt)
+
+-- ---- Every call
+
+-- Every call keeps the array's length.
+pub step-length : (a : List ℕ) (room : ℕ) (c : Call) → length ((step a room c) .after) ≡ length a
+unfolding step changed
+step-length a room (Format D S allowance) = length-cut (refuse CutOff) allowance (format a D S) a
+step-length a room (Get key) = refl
+step-length a room (Put key value allowance) = length-cut (refuse CutOff) allowance (put a key value) a
+step-length a room (Remove key allowance) = length-cut (refuse CutOff) allowance (remove a key) a
+step-length a room (Mend allowance) = length-cut (refuse CutOff) allowance (mend a) a
+step-length a room ListCall = refl
+
+-- The number of words that a call may touch, from word 0 on: those that D and S of word 0 take; for a format, those that its
+-- arguments take.
+unfoldable pub extent : List ℕ → Call → ℕ
+extent a (Format D S allowance) = wordsFor D S
+extent a (Get key) = wordsFor (maxDepth a) (segments a)
+extent a (Put key value allowance) = wordsFor (maxDepth a) (segments a)
+extent a (Remove key allowance) = wordsFor (maxDepth a) (segments a)
+extent a (Mend allowance) = wordsFor (maxDepth a) (segments a)
+extent a ListCall = wordsFor (maxDepth a) (segments a)
+
+changed-untouched : (allowance : ℕ) (p : Plan Said) (a : List ℕ) (D S i : ℕ) → Every (Below D S) (p .due) → wordsFor D S ≤ i
+    → word (changed allowance p a .after) i ≡ word a i
+unfolding changed
+changed-untouched allowance p a D S i h k =
+    rw (after-cut (refuse CutOff) allowance p a)
+    (word-elsewhere (take allowance (p .due)) a i
+    (every-map (Below D S) (λ s. s .at ≡ i → ⊥) (λ s l e. omega arith) (take allowance (p .due))
+    (every-take (Below D S) allowance (p .due) h)))
+
+-- No call changes a word beyond its extent.
+pub step-untouched : (a : List ℕ) (room : ℕ) (c : Call) (i : ℕ) → extent a c ≤ i → word ((step a room c) .after) i ≡ word a i
+unfolding step extent
+step-untouched a room (Format D S allowance) i h = changed-untouched allowance (format a D S) a D S i (format-range a D S) h
+step-untouched a room (Get key) i h = refl
+step-untouched a room (Put key value allowance) i h =
+    changed-untouched allowance (put a key value) a (maxDepth a) (segments a) i (put-range a key value) h
+step-untouched a room (Remove key allowance) i h =
+    changed-untouched allowance (remove a key) a (maxDepth a) (segments a) i (remove-range a key) h
+step-untouched a room (Mend allowance) i h =
+    changed-untouched allowance (mend a) a (maxDepth a) (segments a) i (mend-range a) h
+step-untouched a room ListCall i h = refl
