@@ -3,3 +3,4 @@ pub mod Holds
 pub mod Invariant
 pub mod Recover
 pub mod Changes
+pub mod Mend

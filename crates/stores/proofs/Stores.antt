@@ -11,7 +11,7 @@ use borrow.Author.Tests.{eqb-true, eqb-false, ne-eqb}
 use lib.Dec.{eqb}
 use lib.ListN.{length, getD, set, take, drop, length-set, length-append}
 use lib.Seq.{take-all, take-nil, getD-set-same, getD-set-other}
-use Rattle.stores.specs.Lists.{pick}
+use Rattle.stores.specs.Lists.{pick, each, anyBelow}
 use Rattle.stores.specs.Store.{Store, word, store, apply, exec, Every, writes}
 use Rattle.stores.specs.Executed.{Executed}
 use Rattle.stores.proofs.Tests.{cases}
@@ -109,3 +109,18 @@ word-apply M (s ∷ ss) a h i b =
     same : (b : Bool) (x : ℕ) → pick b x x ≡ x
     same true x = refl
     same false x = refl
+
+-- Which addresses joined lists of stores write.
+pub writes-append : (ss tt : List Store) (i : ℕ) → writes (ss ++ tt) i ≡ writes ss i || writes tt i
+unfolding writes
+writes-append [] tt i = refl
+writes-append (s ∷ ss) tt i = ap (λ (r : Bool). eqb (s .at) i || r) (writes-append ss tt i) ∙ or-assoc (eqb (s .at) i) (writes ss i) (writes tt i)
+  where
+    or-assoc : (a b c : Bool) → a || (b || c) ≡ (a || b) || c
+    or-assoc true b c = refl
+    or-assoc false b c = refl
+
+pub writes-each : (f : ℕ → List Store) (i n : ℕ) → writes (each f n) i ≡ anyBelow (λ k. writes (f k) i) n
+unfolding writes each anyBelow
+writes-each f i zero = refl
+writes-each f i (suc n) = writes-append (each f n) (f n) i ∙ ap (λ (r : Bool). r || writes (f n) i) (writes-each f i n)
