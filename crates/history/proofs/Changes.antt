@@ -55,18 +55,18 @@ module _ {m : Map} {g d S : ℕ} {f : ℕ → ℕ} {a : List ℕ} (inv : Inv m g
       → BlockChanged m m′ g d S f i a (set a at v)
   store-in-block m′ at v w others holds windows =
       let far : 2 ^ suc d ≤ at = within-inside d S (segmentOf (f i)) at (inv .directory .below i below) w .behind in
-      record
-        { length-same = length-set a at v
-        ; word-0-same = word-set-other a at 0 v (omega (arith, pow-pos (suc d)))
-        ; entries-same = λ k h.
+      record {
+        length-same = length-set a at v;
+        word-0-same = word-set-other a at 0 v (omega (arith, pow-pos (suc d)));
+        entries-same = λ k h.
             let near : entryAddress g k < 2 ^ suc d = entry-inside d g k (inv .shape .present) h in
-            word-set-other a at (entryAddress g k) v (omega arith)
-        ; others-same = λ s h unlike x u.
-            word-set-other a at x v (λ e. unlike (segments-disjoint d s (segmentOf (f i)) at (rw e at u) w))
-        ; map-same = others
-        ; now-holds = holds
-        ; now-in-window = windows
-        }
+            word-set-other a at (entryAddress g k) v (omega arith);
+        others-same = λ s h unlike x u.
+            word-set-other a at x v (λ e. unlike (segments-disjoint d s (segmentOf (f i)) at (rw e at u) w));
+        map-same = others;
+        now-holds = holds;
+        now-in-window = windows;
+      }
 
   -- The words of the block's slots are in the array.
   inside : (at : ℕ) → Within d (segmentOf (f i)) at → at < length a
@@ -103,16 +103,16 @@ module _ {m : Map} {g d S : ℕ} {f : ℕ → ℕ} {a : List ℕ} (inv : Inv m g
       → List·Memᴰ k (window (keyAt (set a (keyAddress (baseAt d f i) j) x) (baseAt d f i) k))
   windows-after-key j x k l own h t =
       ⊎-elim
-        (λ (q : eqb k j ≡ true).
-          let e : k ≡ j = eqb-true k j q in
-          let there : keyAt (set a (keyAddress (baseAt d f i) j) x) (baseAt d f i) k ≡ x =
-                  rw e (word-set-same a (keyAddress (baseAt d f i) j) x (inside _ (key-in-block j l)))
-          in
-          rw (there, e) (own (rw there at t)))
-        (λ (q : eqb k j ≡ false).
-          let there = key-after-key a (baseAt d f i) j x k (eqb-false k j q) in
-          rw there (inv .in-window i below k h (rw there at t)))
-        (cases (eqb k j))
+      (λ (q : eqb k j ≡ true).
+      let e : k ≡ j = eqb-true k j q in
+      let there : keyAt (set a (keyAddress (baseAt d f i) j) x) (baseAt d f i) k ≡ x =
+      rw e (word-set-same a (keyAddress (baseAt d f i) j) x (inside _ (key-in-block j l)))
+      in
+      rw (there, e) (own (rw there at t)))
+      (λ (q : eqb k j ≡ false).
+      let there = key-after-key a (baseAt d f i) j x k (eqb-false k j q) in
+      rw there (inv .in-window i below k h (rw there at t)))
+      (cases (eqb k j))
 
   -- ---- The changes
 
@@ -123,27 +123,27 @@ module _ {m : Map} {g d S : ℕ} {f : ℕ → ℕ} {a : List ℕ} (inv : Inv m g
       let base = baseAt d f i in
       let small : j < 64 = window-lt key j (hit-window a base key j e) in
       store-in-block (updated m key (some v)) (valueAddress base j) v (value-in-block j small) (others-as-before key (some v) t)
-        (λ other u.
-          ⊎-elim
-            (λ (q : eqb other key ≡ true).
-              rw (eqb-true other key q, updated-same m key (some v))
-                (holds-new-value (m key) a base key j v (inside _ (value-in-block j small)) (inv .holds i below key t) e))
-            (λ (q : eqb other key ≡ false).
-              let n = eqb-false other key q in
-              rw (updated-other m key (some v) other n)
-                (holds-other-value (m other) a base other j v (λ r. n (sym r ∙ hit-key a base key j e)) (inv .holds i below other u)))
-            (cases (eqb other key)))
-        (windows-after-value j v)
+      (λ other u.
+      ⊎-elim
+      (λ (q : eqb other key ≡ true).
+      rw (eqb-true other key q, updated-same m key (some v))
+      (holds-new-value (m key) a base key j v (inside _ (value-in-block j small)) (inv .holds i below key t) e))
+      (λ (q : eqb other key ≡ false).
+      let n = eqb-false other key q in
+      rw (updated-other m key (some v) other n)
+      (holds-other-value (m other) a base other j v (λ r. n (sym r ∙ hit-key a base key j e)) (inv .holds i below other u)))
+      (cases (eqb other key)))
+      (windows-after-value j v)
 
   -- A value stored into a slot that is not live is not seen.
   pub value-unseen : (j v : ℕ) → j < 64 → live (localDepth (f i)) (bitsAt g f i) (keyAt a (baseAt d f i) j) ≡ false
       → BlockChanged m m g d S f i a (set a (valueAddress (baseAt d f i) j) v)
   value-unseen j v small stale =
       store-in-block m (valueAddress (baseAt d f i) j) v (value-in-block j small) (λ key s. refl)
-        (λ key t.
-          holds-other-value (m key) a (baseAt d f i) key j v (unlike-stale key (keyAt a (baseAt d f i) j) t stale)
-            (inv .holds i below key t))
-        (windows-after-value j v)
+      (λ key t.
+      holds-other-value (m key) a (baseAt d f i) key j v (unlike-stale key (keyAt a (baseAt d f i) j) t stale)
+      (inv .holds i below key t))
+      (windows-after-value j v)
 
   -- A live key that the window did not have, stored into a slot that is not live and has the value v.
   pub new-key : (key j v : ℕ) → LiveAt g f i key → List·Memᴰ j (window key) → hit a (baseAt d f i) key ≡ none
@@ -154,18 +154,18 @@ module _ {m : Map} {g d S : ℕ} {f : ℕ → ℕ} {a : List ℕ} (inv : Inv m g
       let base = baseAt d f i in
       let small : j < 64 = window-lt key j w in
       store-in-block (updated m key (some v)) (keyAddress base j) key (key-in-block j small) (others-as-before key (some v) t)
-        (λ other u.
-          ⊎-elim
-            (λ (q : eqb other key ≡ true).
-              rw (eqb-true other key q, updated-same m key (some v))
-                (holds-new-key a base key j v (inside _ (key-in-block j small)) w (hit-none a base key e) there))
-            (λ (q : eqb other key ≡ false).
-              let n = eqb-false other key q in
-              rw (updated-other m key (some v) other n)
-                (holds-other-key (m other) a base other j key (inside _ (key-in-block j small)) (unlike-stale other (keyAt a base j) u stale)
-                  (λ r. n (sym r)) (inv .holds i below other u)))
-            (cases (eqb other key)))
-        (λ k. windows-after-key j key k small (λ u. w))
+      (λ other u.
+      ⊎-elim
+      (λ (q : eqb other key ≡ true).
+      rw (eqb-true other key q, updated-same m key (some v))
+      (holds-new-key a base key j v (inside _ (key-in-block j small)) w (hit-none a base key e) there))
+      (λ (q : eqb other key ≡ false).
+      let n = eqb-false other key q in
+      rw (updated-other m key (some v) other n)
+      (holds-other-key (m other) a base other j key (inside _ (key-in-block j small)) (unlike-stale other (keyAt a base j) u stale)
+      (λ r. n (sym r)) (inv .holds i below other u)))
+      (cases (eqb other key)))
+      (λ k. windows-after-key j key k small (λ u. w))
 
   -- The key word of a live key cleared at the hit.
   pub key-removed : (key j : ℕ) → LiveAt g f i key → hit a (baseAt d f i) key ≡ some j
@@ -174,16 +174,16 @@ module _ {m : Map} {g d S : ℕ} {f : ℕ → ℕ} {a : List ℕ} (inv : Inv m g
       let base = baseAt d f i in
       let small : j < 64 = window-lt key j (hit-window a base key j e) in
       store-in-block (updated m key none) (keyAddress base j) 0 (key-in-block j small) (others-as-before key none t)
-        (λ other u.
-          ⊎-elim
-            (λ (q : eqb other key ≡ true).
-              rw (eqb-true other key q, updated-same m key none)
-                (holds-removed (m key) a base key j (live-nonzero (localDepth (f i)) (bitsAt g f i) key t) (inside _ (key-in-block j small))
-                  (inv .holds i below key t) e))
-            (λ (q : eqb other key ≡ false).
-              let n = eqb-false other key q in
-              rw (updated-other m key none other n)
-                (holds-other-key (m other) a base other j 0 (inside _ (key-in-block j small)) (λ r. n (sym r ∙ hit-key a base key j e))
-                  (λ r. live-nonzero (localDepth (f i)) (bitsAt g f i) other u (sym r)) (inv .holds i below other u)))
-            (cases (eqb other key)))
-        (λ k. windows-after-key j 0 k small (λ u. absurd (true≢false (sym u ∙ live-empty (localDepth (f i)) (bitsAt g f i)))))
+      (λ other u.
+      ⊎-elim
+      (λ (q : eqb other key ≡ true).
+      rw (eqb-true other key q, updated-same m key none)
+      (holds-removed (m key) a base key j (live-nonzero (localDepth (f i)) (bitsAt g f i) key t) (inside _ (key-in-block j small))
+      (inv .holds i below key t) e))
+      (λ (q : eqb other key ≡ false).
+      let n = eqb-false other key q in
+      rw (updated-other m key none other n)
+      (holds-other-key (m other) a base other j 0 (inside _ (key-in-block j small)) (λ r. n (sym r ∙ hit-key a base key j e))
+      (λ r. live-nonzero (localDepth (f i)) (bitsAt g f i) other u (sym r)) (inv .holds i below other u)))
+      (cases (eqb other key)))
+      (λ k. windows-after-key j 0 k small (λ u. absurd (true≢false (sym u ∙ live-empty (localDepth (f i)) (bitsAt g f i)))))

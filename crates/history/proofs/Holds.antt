@@ -51,12 +51,11 @@ pub hit-key : (a : List ℕ) (base key j : ℕ) → hit a base key ≡ some j �
 unfolding hit
 hit-key a base key j e = eqb-true (keyAt a base j) key (first-some (λ j. eqb (keyAt a base j) key) (window key) j e .1)
 
--- A hit: the map has a value, and the slot has it.
-hit-value : (m : Option ℕ) (a : List ℕ) (base key j : ℕ) → Holds m a base key → hit a base key ≡ some j → m ≡ some (valueAt a base j)
-hit-value none a base key j h e = absurd (h j (hit-window a base key j e) (hit-key a base key j e))
-hit-value (some v) a base key j h e =
-    let same : j ≡ h .slot = h .only j (hit-window a base key j e) (hit-key a base key j e) in
-    ap some (sym (h .has-value)) ∙ ap (λ (k : ℕ). some (valueAt a base k)) (sym same)
+-- Where a slot of the key's window has the key, the map has the slot's value.
+pub holds-value : (m : Option ℕ) (a : List ℕ) (base key j : ℕ) → Holds m a base key → List·Memᴰ j (window key) → keyAt a base j ≡ key
+    → m ≡ some (valueAt a base j)
+holds-value none a base key j h w e = absurd (h j w e)
+holds-value (some v) a base key j h w e = ap some (sym (h .has-value)) ∙ ap (λ (k : ℕ). some (valueAt a base k)) (sym (h .only j w e))
 
 -- No hit: the map has none.
 pub hit-absent : (m : Option ℕ) (a : List ℕ) (base key : ℕ) → Holds m a base key → hit a base key ≡ none → m ≡ none
@@ -77,7 +76,7 @@ holds-found m a base key h = go (hit a base key) refl
   where
     go : (r : Option ℕ) → hit a base key ≡ r → valueAtHit a base r ≡ mapSays m
     go none e = rw (hit-absent m a base key h e)
-    go (some j) e = rw (hit-value m a base key j h e)
+    go (some j) e = rw (holds-value m a base key j h (hit-window a base key j e) (hit-key a base key j e))
 
 -- ---- Changes of slots
 

@@ -2,5 +2,9 @@
 pub mod Holds
 pub mod Invariant
 pub mod Recover
+pub mod Prefixes
 pub mod Changes
+pub mod Double
 pub mod Mend
+pub mod Format
+pub mod Listing

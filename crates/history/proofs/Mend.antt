@@ -39,40 +39,40 @@ module _ {m : Map} {g d S : ℕ} {f : ℕ → ℕ} {a : List ℕ} (inv : Inv m g
     lookup-mended : (i : ℕ) → i < 2 ^ g → entryAt b g i ≡ f i → LookupAgrees m g d S b i
     lookup-mended i h e =
         let low : localDepth (f i) ≤ g = inv .directory .depths i h in
-        record
-          { depth-fits = rw e low
-          ; segment-fits = rw e (inv .directory .below i h)
-          ; found = λ key t.
+        record {
+          depth-fits = rw e low;
+          segment-fits = rw e (inv .directory .below i h);
+          found = λ key t.
               rw e
-                (same-holds d (segmentOf (f i)) a b (segment-same (segmentOf (f i)) (inv .directory .below i h)) (m key) key
-                  (inv .holds i h key (live-above g (localDepth (f i)) i key low t)))
-          }
+              (same-holds d (segmentOf (f i)) a b (segment-same (segmentOf (f i)) (inv .directory .below i h)) (m key) key
+              (inv .holds i h key (live-above g (localDepth (f i)) i key low t)));
+        }
 
     lookup-standing : (i : ℕ) → i < 2 ^ g → entryAt b g i ≡ entryAt a g i → LookupAgrees m g d S b i
     lookup-standing i h e =
         let l = inv .lookups-agree i h in
-        record
-          { depth-fits = rw e (l .depth-fits)
-          ; segment-fits = rw e (l .segment-fits)
-          ; found = λ key t.
+        record {
+          depth-fits = rw e (l .depth-fits);
+          segment-fits = rw e (l .segment-fits);
+          found = λ key t.
               rw e
-                (same-holds d (segmentOf (entryAt a g i)) a b (segment-same (segmentOf (entryAt a g i)) (l .segment-fits)) (m key) key
-                  (l .found key t))
-          }
+              (same-holds d (segmentOf (entryAt a g i)) a b (segment-same (segmentOf (entryAt a g i)) (l .segment-fits)) (m key) key
+              (l .found key t));
+        }
 
     pub partly-mended : Inv m g d S f b
     partly-mended =
-        record
-          { shape = shape-kept b (inv .shape) (p .word-0-same) (p .length-same)
-          ; directory = inv .directory
-          ; leaders-agree = λ i h e. ⊎-elim (λ q. q ∙ inv .leaders-agree i h e) (λ q. q) (p .entries i h)
-          ; holds = λ i h key t.
-              same-holds d (segmentOf (f i)) a b (segment-same (segmentOf (f i)) (inv .directory .below i h)) (m key) key (inv .holds i h key t)
-          ; in-window = λ i h j k t.
+        record {
+          shape = shape-kept b (inv .shape) (p .word-0-same) (p .length-same);
+          directory = inv .directory;
+          leaders-agree = λ i h e. ⊎-elim (λ q. q ∙ inv .leaders-agree i h e) (λ q. q) (p .entries i h);
+          holds = λ i h key t.
+              same-holds d (segmentOf (f i)) a b (segment-same (segmentOf (f i)) (inv .directory .below i h)) (m key) key (inv .holds i h key t);
+          in-window = λ i h j k t.
               let e = same-key d (segmentOf (f i)) a b (segment-same (segmentOf (f i)) (inv .directory .below i h)) j k in
-              rw e (inv .in-window i h j k (rw e at t))
-          ; lookups-agree = λ i h. ⊎-elim (lookup-standing i h) (lookup-mended i h) (p .entries i h)
-          }
+              rw e (inv .in-window i h j k (rw e at t));
+          lookups-agree = λ i h. ⊎-elim (lookup-standing i h) (lookup-mended i h) (p .entries i h);
+        }
 
   -- ---- The stores of a mend
 
@@ -101,9 +101,9 @@ module _ {m : Map} {g d S : ℕ} {f : ℕ → ℕ} {a : List ℕ} (inv : Inv m g
       one : (i : ℕ) → i < 2 ^ g → Every Repairs (repair i)
       one i h =
           ⊎-elim
-            (λ (t : eqb (entryAt a g i) (f i) ≡ true). rw t Prim.tt)
-            (λ (t : eqb (entryAt a g i) (f i) ≡ false). rw t (repair-here i h, Prim.tt))
-            (cases (eqb (entryAt a g i) (f i)))
+          (λ (t : eqb (entryAt a g i) (f i) ≡ true). rw t Prim.tt)
+          (λ (t : eqb (entryAt a g i) (f i) ≡ false). rw t (repair-here i h, Prim.tt))
+          (cases (eqb (entryAt a g i) (f i)))
 
   entry-place : (i : ℕ) → entryAddress g i - 2 ^ g ≡ i
   unfolding entryAddress
@@ -129,12 +129,12 @@ module _ {m : Map} {g d S : ℕ} {f : ℕ → ℕ} {a : List ℕ} (inv : Inv m g
 
     by-repairs : PartlyMended g d f a (apply ss a)
     by-repairs =
-        record
-          { length-same = length-apply ss a
-          ; word-0-same = elsewhere 0 (λ l u. omega (arith, pow-pos g))
-          ; entries = λ i h. choose (writes ss (entryAddress g i)) (entry-after i h)
-          ; segments-same = λ x l. elsewhere x (λ k u. omega (arith, pow-mono {j = suc d} (native.Mathlib.Nat.suc-le-suc-iff .1 (inv .shape .present))))
-          }
+        record {
+          length-same = length-apply ss a;
+          word-0-same = elsewhere 0 (λ l u. omega (arith, pow-pos g));
+          entries = λ i h. choose (writes ss (entryAddress g i)) (entry-after i h);
+          segments-same = λ x l. elsewhere x (λ k u. omega (arith, pow-mono {j = suc d} (native.Mathlib.Nat.suc-le-suc-iff .1 (inv .shape .present))));
+        }
       where
         choose : {x y z : ℕ} (b : Bool) → x ≡ pick b y z → (x ≡ z) ⊎ (x ≡ y)
         choose true e = inr e
@@ -145,8 +145,8 @@ module _ {m : Map} {g d S : ℕ} {f : ℕ → ℕ} {a : List ℕ} (inv : Inv m g
   unfolding exec
   mending-kept n =
       rw mending-is
-        (partly-mended (apply (take n (each repair (2 ^ g))) a)
-          (by-repairs (take n (each repair (2 ^ g))) (every-take Repairs n (each repair (2 ^ g)) repairs)))
+      (partly-mended (apply (take n (each repair (2 ^ g))) a)
+      (by-repairs (take n (each repair (2 ^ g))) (every-take Repairs n (each repair (2 ^ g)) repairs)))
 
   -- An entry that differs from f's is written.
   written : (i : ℕ) → i < 2 ^ g → eqb (entryAt a g i) (f i) ≡ false → writes (each repair (2 ^ g)) (entryAddress g i) ≡ true
@@ -154,17 +154,17 @@ module _ {m : Map} {g d S : ℕ} {f : ℕ → ℕ} {a : List ℕ} (inv : Inv m g
   written i h t =
       writes-each repair (entryAddress g i) (2 ^ g)
       ∙ any-true (λ k. writes (repair k) (entryAddress g i)) (2 ^ g) i h
-        (rw (t, eq-eqb (entryAddress g i) (entryAddress g i) refl))
+      (rw (t, eq-eqb (entryAddress g i) (entryAddress g i) refl))
 
   -- All of them leave f's entries.
   pub mended-recovered : Recovered g f (apply (mending a) a)
   mended-recovered i h =
       rw mending-is
-        (entry-after (each repair (2 ^ g)) repairs i h
-        ∙ ⊎-elim
-          (λ (t : eqb (entryAt a g i) (f i) ≡ true). same (writes (each repair (2 ^ g)) (entryAddress g i)) (eqb-true _ _ t))
-          (λ (t : eqb (entryAt a g i) (f i) ≡ false). rw (written i h t))
-          (cases (eqb (entryAt a g i) (f i))))
+      (entry-after (each repair (2 ^ g)) repairs i h
+      ∙ ⊎-elim
+      (λ (t : eqb (entryAt a g i) (f i) ≡ true). same (writes (each repair (2 ^ g)) (entryAddress g i)) (eqb-true _ _ t))
+      (λ (t : eqb (entryAt a g i) (f i) ≡ false). rw (written i h t))
+      (cases (eqb (entryAt a g i) (f i))))
     where
       same : (b : Bool) → entryAt a g i ≡ f i → pick b (f i) (entryAt a g i) ≡ f i
       same true e = refl

@@ -42,10 +42,10 @@ module _ {m : Map} {g d S : ℕ} {f : ℕ → ℕ} {a : List ℕ} (inv : Inv m g
       let inside : first i < 2 ^ g = omega arith in
       let pos : 0 < width g (localDepth (f i)) = width-pos g (localDepth (f i)) in
       let same : f (first i) ≡ f i =
-              inv .directory .blocks i (first i) h inside (block-same g (localDepth (f i)) i (first i) (le-refl (first i)) (omega arith))
+      inv .directory .blocks i (first i) h inside (block-same g (localDepth (f i)) i (first i) (le-refl (first i)) (omega arith))
       in
       let own : blockStart g (localDepth (f (first i))) (first i) ≡ first i =
-              rw same (blockStart-self g (localDepth (f i)) (first i) (blockStart-aligned g (localDepth (f i)) i))
+      rw same (blockStart-self g (localDepth (f i)) (first i) (blockStart-aligned g (localDepth (f i)) i))
       in
       inv .leaders-agree (first i) inside own ∙ same
 
@@ -53,15 +53,15 @@ module _ {m : Map} {g d S : ℕ} {f : ℕ → ℕ} {a : List ℕ} (inv : Inv m g
   next-begins : (i : ℕ) → suc i < 2 ^ g → suc i % width g (localDepth (f i)) ≡ 0 → first (suc i) ≡ suc i
   next-begins i h e =
       ⊎-elim
-        (λ (q : first (suc i) ≡ suc i). q)
-        (λ (q : first (suc i) < suc i).
-          let up : suc i < first (suc i) + width g (localDepth (f (suc i))) = in-block g (localDepth (f (suc i))) (suc i) in
-          let same : f i ≡ f (suc i) =
-                  inv .directory .blocks (suc i) i h (omega arith)
-                    (block-same g (localDepth (f (suc i))) (suc i) i (omega arith) (omega arith))
-          in
-          rw (ap localDepth (sym same)) (blockStart-self g (localDepth (f i)) (suc i) e))
-        (eq-or-lt-of-le (blockStart-le g (localDepth (f (suc i))) (suc i)))
+      (λ (q : first (suc i) ≡ suc i). q)
+      (λ (q : first (suc i) < suc i).
+      let up : suc i < first (suc i) + width g (localDepth (f (suc i))) = in-block g (localDepth (f (suc i))) (suc i) in
+      let same : f i ≡ f (suc i) =
+      inv .directory .blocks (suc i) i h (omega arith)
+      (block-same g (localDepth (f (suc i))) (suc i) i (omega arith) (omega arith))
+      in
+      rw (ap localDepth (sym same)) (blockStart-self g (localDepth (f i)) (suc i) e))
+      (eq-or-lt-of-le (blockStart-le g (localDepth (f (suc i))) (suc i)))
 
   -- Within a block, the block goes on.
   next-within : (i : ℕ) → suc i < 2 ^ g → (suc i % width g (localDepth (f i)) ≡ 0 → ⊥) → first (suc i) ≡ first i
@@ -70,15 +70,15 @@ module _ {m : Map} {g d S : ℕ} {f : ℕ → ℕ} {a : List ℕ} (inv : Inv m g
       let low : first i ≤ i = blockStart-le g (localDepth (f i)) i in
       let up : i < first i + width g (localDepth (f i)) = in-block g (localDepth (f i)) i in
       ⊎-elim
-        (λ (q : suc i ≡ first i + width g (localDepth (f i))).
-          absurd (n (rw q (add-mod-right (first i) (width g (localDepth (f i))) ∙ blockStart-aligned g (localDepth (f i)) i))))
-        (λ (q : suc i < first i + width g (localDepth (f i))).
-          let bits : blockBits g (localDepth (f i)) (suc i) ≡ blockBits g (localDepth (f i)) i =
-                  block-same g (localDepth (f i)) i (suc i) (omega arith) q
-          in
-          let same : f (suc i) ≡ f i = inv .directory .blocks i (suc i) (omega arith) h bits in
-          rw (ap localDepth same) (block-same-start g (localDepth (f i)) i (suc i) (omega arith) q))
-        (eq-or-lt-of-le up)
+      (λ (q : suc i ≡ first i + width g (localDepth (f i))).
+      absurd (n (rw q (add-mod-right (first i) (width g (localDepth (f i))) ∙ blockStart-aligned g (localDepth (f i)) i))))
+      (λ (q : suc i < first i + width g (localDepth (f i))).
+      let bits : blockBits g (localDepth (f i)) (suc i) ≡ blockBits g (localDepth (f i)) i =
+      block-same g (localDepth (f i)) i (suc i) (omega arith) q
+      in
+      let same : f (suc i) ≡ f i = inv .directory .blocks i (suc i) (omega arith) h bits in
+      rw (ap localDepth same) (block-same-start g (localDepth (f i)) i (suc i) (omega arith) q))
+      (eq-or-lt-of-le up)
 
   -- The scan's leader of index i is the first index of its block in f.
   pub inv-leader : (i : ℕ) → i < 2 ^ g → leader a g i ≡ first i
@@ -89,13 +89,13 @@ module _ {m : Map} {g d S : ℕ} {f : ℕ → ℕ} {a : List ℕ} (inv : Inv m g
       let here : leader a g i ≡ first i = inv-leader i (omega arith) in
       let led : leadingEntry a g i ≡ f i = rw here (first-entry i (omega arith)) in
       ⊎-elim
-        (λ (t : eqb (suc i % width g (localDepth (f i))) 0 ≡ true).
-          let e : suc i % width g (localDepth (f i)) ≡ 0 = eqb-true _ _ t in
-          leader-new a g i (rw led e) ∙ sym (next-begins i h e))
-        (λ (t : eqb (suc i % width g (localDepth (f i))) 0 ≡ false).
-          let n : suc i % width g (localDepth (f i)) ≡ 0 → ⊥ = eqb-false _ _ t in
-          leader-kept a g i (rw led n) ∙ here ∙ sym (next-within i h n))
-        (cases (eqb (suc i % width g (localDepth (f i))) 0))
+      (λ (t : eqb (suc i % width g (localDepth (f i))) 0 ≡ true).
+      let e : suc i % width g (localDepth (f i)) ≡ 0 = eqb-true _ _ t in
+      leader-new a g i (rw led e) ∙ sym (next-begins i h e))
+      (λ (t : eqb (suc i % width g (localDepth (f i))) 0 ≡ false).
+      let n : suc i % width g (localDepth (f i)) ≡ 0 → ⊥ = eqb-false _ _ t in
+      leader-kept a g i (rw led n) ∙ here ∙ sym (next-within i h n))
+      (cases (eqb (suc i % width g (localDepth (f i))) 0))
 
   -- The entry that leads index i is f's.
   pub inv-leading : (i : ℕ) → i < 2 ^ g → leadingEntry a g i ≡ f i
@@ -105,10 +105,10 @@ module _ {m : Map} {g d S : ℕ} {f : ℕ → ℕ} {a : List ℕ} (inv : Inv m g
   unfolding leadersValid
   inv-leaders-valid =
       all-true _ (2 ^ g)
-        (λ i h.
-          rw (inv-leading i h, inv-leader i h)
-            (valid-leader g S (first i) (f i) (in-range g S (f i) (inv .directory .depths i h) (inv .directory .below i h))
-              (blockStart-aligned g (localDepth (f i)) i)))
+      (λ i h.
+      rw (inv-leading i h, inv-leader i h)
+      (valid-leader g S (first i) (f i) (in-range g S (f i) (inv .directory .depths i h) (inv .directory .below i h))
+      (blockStart-aligned g (localDepth (f i)) i)))
 
   pub recovered-agree : Recovered g f a → entriesAgree a g ≡ true
   unfolding entriesAgree
@@ -132,9 +132,13 @@ module _ {m : Map} {g d S : ℕ} {f : ℕ → ℕ} {a : List ℕ} (inv : Inv m g
   unfolding getTests unless
   inv-get-tests key nonzero =
       let l = inv .lookups-agree (index key g) (index-lt key g) in
-      rw
-        (inv-key-tests key _ nonzero, inv-key-entry key, shape-depth (inv .shape), shape-segments (inv .shape),
-        in-range g S (entryAt a g (index key g)) (l .depth-fits) (l .segment-fits))
+      rw (
+        inv-key-tests key _ nonzero,
+        inv-key-entry key,
+        shape-depth (inv .shape),
+        shape-segments (inv .shape),
+        in-range g S (entryAt a g (index key g)) (l .depth-fits) (l .segment-fits),
+      )
 
   pub inv-directory-tests : (later : Option Refusal) → Recovered g f a → directoryTests a later ≡ later
   unfolding directoryTests unless

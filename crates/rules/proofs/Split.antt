@@ -27,7 +27,7 @@ use Rattle.rules.proofs.Keys.{bit-lt, index-suc, index-lt, index-half, 
 
 -- ---- Stores in general
 
-every-pick : (P : Store → Type 0) (b : Bool) (ss tt : List Store) → Every P ss → Every P tt → Every P (pick b ss tt)
+pub every-pick : (P : Store → Type 0) (b : Bool) (ss tt : List Store) → Every P ss → Every P tt → Every P (pick b ss tt)
 every-pick P true ss tt h k = h
 every-pick P false ss tt h k = k
 
@@ -112,7 +112,7 @@ module _ (a : List ℕ) (v : ValidHeader a) (room : depth a < maxDepth a) where
   next-fits = let r = v .room in omega (arith, next-directory a room)
 
   -- The array behind a doubling: word 0 is the new header, and the other words are those behind the entries' stores.
-  doubled-word-0 : word (apply (doubling a) a) 0 ≡ header (suc (depth a)) (maxDepth a) (segments a)
+  pub doubled-word-0 : word (apply (doubling a) a) 0 ≡ header (suc (depth a)) (maxDepth a) (segments a)
   unfolding apply
   doubled-word-0 =
       let b : List ℕ = apply (doubledEntries a) a in

@@ -1,0 +1,136 @@
+-- What holds after every number of stores: the map kept under every allowance, and what is read after a prefix of stores.
+-- Assumes nothing.
+use mathlib.Core.Path.{_≡_, refl, sym, ap, _∙_}
+use mathlib.Core.Bool.{Bool, true, false}
+use mathlib.Core.List.{List, [], _∷_, _++_, append-nil}
+use mathlib.Core.Logic.{_⊎_, inl, inr, ⊎-elim}
+use Prim.Native.Nat.{ℕ, zero, suc, _+_, _-_, _≤_, _<_, min}
+use native.Mathlib.Nat.{le-refl, le-step, le-total, min-eq-left, min-eq-right, eq-or-lt-of-le, le-of-suc-le-suc}
+use native.Mathlib.Omega.{arith}
+use borrow.Author.Tests.{leb-true, leb-false}
+use lib.Dec.{leb}
+use lib.ListN.{length, take}
+use lib.Seq.{take-all, take-nil}
+use Rattle.stores.specs.Lists.{pick, each}
+use Rattle.stores.specs.Store.{Store, word, store, apply, exec, Every, writes}
+use Rattle.stores.proofs.Tests.{cases}
+use Rattle.stores.proofs.Lists.{each-zero, each-suc, length-each-ones, every-take, every-each, every-map}
+use Rattle.stores.proofs.Stores.{exec-all, exec-none, exec-not-made, take-append, exec-append, length-apply, word-elsewhere, word-apply}
+use Rattle.rules.proofs.Split.{read-each}
+use Rattle.history.specs.Map.{Map}
+use Rattle.history.proofs.Invariant.{Inv, Recovered}
+
+-- ---- The invariant with the depth and the directory left open
+
+-- The array keeps the map m: the invariant holds with some depth and some directory.
+pub record Kept (m : Map) (d S : ℕ) (a : List ℕ) : Type 0 where
+  pub g : ℕ
+  pub f : ℕ → ℕ
+  pub inv : Inv m g d S f a
+
+-- It keeps the map m, and needs no recovery.
+pub record Whole (m : Map) (d S : ℕ) (a : List ℕ) : Type 0 where
+  pub g : ℕ
+  pub f : ℕ → ℕ
+  pub inv : Inv m g d S f a
+  pub recovered : Recovered g f a
+
+pub whole-kept : {m : Map} {d S : ℕ} {a : List ℕ} → Whole m d S a → Kept m d S a
+whole-kept w = record { g = w .g; f = w .f; inv = w .inv }
+
+-- ---- After every number of stores
+
+-- P holds of the array after each number of the stores ss: before the first, between them, and after the last.
+abbrev pub Always : (List ℕ → Type 0) → List Store → List ℕ → Type 0
+Always P ss a = (n : ℕ) → P (exec ss n a)
+
+module _ (P : List ℕ → Type 0) where
+  pub always-whole : (ss : List Store) (a : List ℕ) → Always P ss a → P (apply ss a)
+  always-whole ss a h = rw (exec-all ss (length ss) a (le-refl (length ss))) at (h (length ss))
+
+  pub always-first : (ss : List Store) (a : List ℕ) → Always P ss a → P a
+  always-first ss a h = rw (exec-none ss a) at (h 0)
+
+  pub always-none : (a : List ℕ) → P a → Always P [] a
+  unfolding exec apply
+  always-none a h n = rw (take-nil {A = Store} n) h
+
+  pub always-append : (ss tt : List Store) (a : List ℕ) → Always P ss a → Always P tt (apply ss a) → Always P (ss ++ tt) a
+  always-append ss tt a h k n =
+      ⊎-elim
+      (λ (l : leb n (length ss) ≡ true).
+      rw (exec-append ss tt n a, exec-not-made tt (n - length ss) (exec ss n a) (omega (arith, leb-true n (length ss) l))) (h n))
+      (λ (l : leb n (length ss) ≡ false).
+      rw (exec-append ss tt n a, exec-all ss n a (omega (arith, leb-false n (length ss) l))) (k (n - length ss)))
+      (cases (leb n (length ss)))
+
+  -- One store: before it and after it.
+  pub always-one : (s : Store) (a : List ℕ) → P a → P (apply (s ∷ []) a) → Always P (s ∷ []) a
+  always-one s a h k zero = rw exec-none h
+  always-one s a h k (suc n) = rw (exec-all (s ∷ []) (suc n) a (omega arith)) k
+
+-- ---- Reads after a prefix
+
+-- Stores all at addresses of the kind P leave the words at other addresses, under every allowance.
+pub exec-elsewhere : (P : ℕ → Type 0) (ss : List Store) (n : ℕ) (a : List ℕ) (i : ℕ) → Every (λ s. P (s .at)) ss → (P i → ⊥)
+    → word (exec ss n a) i ≡ word a i
+unfolding exec
+exec-elsewhere P ss n a i all other =
+    word-elsewhere (take n ss) a i
+    (every-map (λ s. P (s .at)) (λ s. s .at ≡ i → ⊥) (λ s p e. other (rw e at p)) (take n ss)
+    (every-take (λ s. P (s .at)) n ss all))
+
+pub apply-elsewhere : (P : ℕ → Type 0) (ss : List Store) (a : List ℕ) (i : ℕ) → Every (λ s. P (s .at)) ss → (P i → ⊥)
+    → word (apply ss a) i ≡ word a i
+apply-elsewhere P ss a i all other =
+    word-elsewhere ss a i (every-map (λ s. P (s .at)) (λ s. s .at ≡ i → ⊥) (λ s p e. other (rw e at p)) ss all)
+
+-- Where each store writes M of its address, a word is the old one or M there.
+pub exec-either : (M : ℕ → ℕ) (ss : List Store) (n : ℕ) (a : List ℕ) → Every (λ s. s .value ≡ M (s .at)) ss → (i : ℕ) → i < length a
+    → (word (exec ss n a) i ≡ word a i) ⊎ (word (exec ss n a) i ≡ M i)
+unfolding exec
+exec-either M ss n a all i b =
+    let read = word-apply M (take n ss) a (every-take (λ s. s .value ≡ M (s .at)) n ss all) i b in
+    ⊎-elim
+    (λ (t : writes (take n ss) i ≡ true). inr (rw t at read))
+    (λ (t : writes (take n ss) i ≡ false). inl (rw t at read))
+    (cases (writes (take n ss) i))
+
+-- ---- Stores one by one
+
+-- The first n of w single stores.
+pub take-each : (f : ℕ → Store) (w n : ℕ) → take n (each (λ i. f i ∷ []) w) ≡ each (λ i. f i ∷ []) (min n w)
+take-each f zero n = rw (each-zero (λ i. f i ∷ []), take-nil {A = Store} n, min-eq-right {n = 0} {m = n} (omega arith), each-zero (λ i. f i ∷ []))
+take-each f (suc w) n =
+    let one : ℕ → List Store = λ i. f i ∷ [] in
+    let front : length (each one w) ≡ w = length-each-ones f w in
+    let parts : take n (each one (suc w)) ≡ take n (each one w) ++ take (n - w) (one w) =
+    ap (take n) (each-suc one w) ∙ rw front at (take-append (each one w) (one w) n) in
+    parts
+    ∙ ⊎-elim
+    (λ (t : leb n w ≡ true).
+    let l : n ≤ w = leb-true n w t in
+    let none : n - w ≡ 0 = omega arith in
+    rw (none, take-each f w n, min-eq-left l, min-eq-left (le-step l)) (append-nil (each one n)))
+    (λ (t : leb n w ≡ false).
+    let l : w < n = leb-false n w t in
+    rw
+    (take-all (n - w) (one w) (omega arith), take-all n (each one w) (rw front (omega arith)), min-eq-right {n = suc w} {m = n} l)
+    (sym (each-suc one w)))
+    (cases (leb n w))
+
+-- Single stores at different addresses, of which the first n are made: what is read at store k's address.
+module _ (at value : ℕ → ℕ) (w n : ℕ) (a : List ℕ) (apart : (i j : ℕ) → i < j → j < w → at i ≡ at j → ⊥) (k : ℕ) (h : k < w) where
+  pub single-made : k < n → at k < length a → word (exec (each (λ t. store (at t) (value t) ∷ []) w) n a) (at k) ≡ value k
+  unfolding exec
+  single-made l b =
+      rw (take-each (λ t. store (at t) (value t)) w n)
+      (read-each at value (min n w) a (λ i j p q. apart i j p (omega arith)) k (omega arith) b)
+
+  pub single-not-made : n ≤ k → word (exec (each (λ t. store (at t) (value t) ∷ []) w) n a) (at k) ≡ word a (at k)
+  unfolding exec
+  single-not-made l =
+      rw (take-each (λ t. store (at t) (value t)) w n)
+      (word-elsewhere (each (λ t. store (at t) (value t) ∷ []) (min n w)) a (at k)
+      (every-each (λ s. s .at ≡ at k → ⊥) (λ t. store (at t) (value t) ∷ []) (min n w)
+      (λ t q. (apart t k (omega arith) h, Prim.tt))))
