@@ -13,7 +13,7 @@ use lib.ListN.{length, set, length-set}
 use Rattle.stores.specs.Lists.{firstIn}
 use Rattle.stores.specs.Store.{word}
 use Rattle.stores.proofs.Tests.{cases}
-use Rattle.stores.proofs.Lists.{first-some, first-none}
+use Rattle.stores.proofs.Lists.{first-same, first-some, first-none}
 use Rattle.stores.proofs.Stores.{word-set-same, word-set-other}
 use Rattle.rules.specs.Layout.{keyAddress, valueAddress, keyAt, valueAt}
 use Rattle.rules.specs.Keys.{window}
@@ -109,6 +109,11 @@ key-inj base j k e = omega arith
 -- A new value at slot j: keys stay, and the values of other slots.
 pub key-after-value : (a : List ℕ) (base j v k : ℕ) → keyAt (set a (valueAddress base j) v) base k ≡ keyAt a base k
 key-after-value a base j v k = word-set-other a (valueAddress base j) (keyAddress base k) v (key-not-value base k j)
+
+pub hit-after-value : (a : List ℕ) (base j v key : ℕ) → hit (set a (valueAddress base j) v) base key ≡ hit a base key
+unfolding hit
+hit-after-value a base j v key =
+    first-same _ _ (window key) (λ k w. ap (λ (x : ℕ). eqb x key) (key-after-value a base j v k))
 
 pub value-after-value : (a : List ℕ) (base j v k : ℕ) → (k ≡ j → ⊥) → valueAt (set a (valueAddress base j) v) base k ≡ valueAt a base k
 value-after-value a base j v k d =

@@ -8,3 +8,5 @@ pub mod Double
 pub mod Mend
 pub mod Format
 pub mod Listing
+pub mod Split
+pub mod Put

@@ -3,4 +3,5 @@ pub mod Map
 pub mod Run
 pub mod History
 pub mod Listing
+pub mod Further
 pub mod Check

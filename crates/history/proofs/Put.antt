@@ -1,0 +1,229 @@
+-- A put of a key but 0 keeps the map under every allowance, and whole it leaves what the map is told of it.
+-- Assumes nothing.
+use mathlib.Core.Path.{_≡_, refl, sym, ap, _∙_}
+use mathlib.Core.Bool.{Bool, true, false, not, _&&_, _||_}
+use mathlib.Core.List.{List, [], _∷_, _++_, List·Memᴰ}
+use mathlib.Core.Option.{Option, none, some}
+use mathlib.Core.Logic.{⊎-elim}
+use Prim.Native.Nat.{ℕ, zero, suc, _+_, _-_, _*_, _^_, _≤_, _<_}
+use native.Mathlib.Nat.{not-suc-le-zero, le-of-suc-le-suc}
+use native.Mathlib.Omega.{arith}
+use borrow.Author.Tests.{leb-true, leb-false, not-true}
+use lib.Dec.{leb}
+use lib.ListN.{length, set, length-append, length-set}
+use Rattle.stores.specs.Store.{Store, store, apply, exec}
+use Rattle.stores.specs.Plan.{Plan, reply-only, _then_}
+use Rattle.stores.proofs.Tests.{cases}
+use Rattle.stores.proofs.Lists.{first-some}
+use Rattle.stores.proofs.Stores.{apply-append, exec-append, exec-all, exec-none, exec-not-made, word-set-same, word-set-other}
+use Rattle.rules.specs.declared.Refusal.{Refusal}
+use Rattle.rules.specs.declared.Refusal.the-variants.{TooDeep, NoSegment}
+use Rattle.rules.specs.Layout.{depth, maxDepth, wordsFor, entryAt, segmentOf, localDepth, segmentAddress, keyAddress, valueAddress, keyAt, valueAt}
+use Rattle.rules.specs.Keys.{index, blockBits, live, window}
+use Rattle.rules.specs.Slots.{found, into, full, hit, usable, firstUsable, freeSegment}
+use Rattle.rules.specs.Replies.{Said, done, refused, refuse}
+use Rattle.rules.specs.Get.{keyEntry, keySegment}
+use Rattle.rules.specs.Split.{splitting}
+use Rattle.rules.specs.Put.{putTests, keyChoice, put}
+use Rattle.rules.proofs.Words.{key-inside, value-inside}
+use Rattle.rules.proofs.Keys.{index-lt, window-lt}
+use Rattle.rules.proofs.Split.{keyBits, Splittable}
+use Rattle.rules.proofs.Put.{Passed, choice-found, choice-into, keyHit, keyUsable, renewed, inserted, Cases, put-induction}
+use Rattle.history.specs.Map.{Map, View, puts, isDone, fed, updated}
+use Rattle.history.specs.Run.{isRefusal}
+use Rattle.history.specs.Further.{saysDamage}
+use Rattle.history.proofs.Holds.{key-after-value, hit-after-value}
+use Rattle.history.proofs.Invariant.{Inv, Recovered, LiveAt, bitsAt, baseAt, live-above, live-own, block-changed, block-recovered, BlockChanged, shape-depth}
+use Rattle.history.proofs.Recover.{inv-put-tests, inv-key-entry, inv-key-segment}
+use Rattle.history.proofs.Prefixes.{Kept, Whole, whole-kept, Always}
+use Rattle.history.proofs.Changes.{new-value, value-unseen, new-key}
+use Rattle.history.proofs.Split.{split-kept, split-whole}
+
+-- What a put's plan is to the map m: every number of its stores below all of them keeps m, and all of them leave what the map
+-- is told; it says done, 5 or 6.
+pub record PutKept (m : Map) (d S key value : ℕ) (p : Plan Said) (a : List ℕ) : Type 0 where
+  pub prefixes : (k : ℕ) → k < length (p .due) → Kept m d S (exec (p .due) k a)
+  pub whole : Whole (fed (puts key value) (isDone (p .reply)) m) d S (apply (p .due) a)
+  pub not-cut : isRefusal 7 (p .reply) ≡ false
+  pub no-damage : saysDamage (p .reply) ≡ false
+
+-- A plan without stores, that says 5 or 6.
+nothing-due : {m : Map} {d S : ℕ} (key value : ℕ) (r : Refusal) {a : List ℕ} → isRefusal 7 (refuse r) ≡ false
+    → saysDamage (refuse r) ≡ false
+    → Whole m d S a
+    → PutKept m d S key value (reply-only (refuse r)) a
+unfolding fed apply
+nothing-due key value r n b w =
+    record { prefixes = λ k h. absurd (not-suc-le-zero h); whole = w; not-cut = n; no-damage = b }
+
+module _ (key value : ℕ) where
+  -- ---- The key's own block
+
+  module _ {m : Map} {g d S : ℕ} {f : ℕ → ℕ} {a : List ℕ} (inv : Inv m g d S f a) (same : Recovered g f a) where
+    abbrev here : ℕ
+    here = index key g
+
+    pub own-entry : keyEntry a key ≡ f here
+    own-entry = inv-key-entry inv key ∙ same here (index-lt key g)
+
+    pub own-segment : keySegment a key ≡ baseAt d f here
+    own-segment = inv-key-segment inv key ∙ ap (λ (e : ℕ). segmentAddress d (segmentOf e)) (same here (index-lt key g))
+
+    pub own-bits : keyBits a key ≡ bitsAt g f here
+    own-bits = rw (shape-depth (inv .shape), own-entry)
+
+    pub own-live : (key ≡ 0 → ⊥) → LiveAt g f here key
+    own-live nonzero =
+        live-above g (localDepth (f here)) here key (inv .directory .depths here (index-lt key g)) (live-own g key nonzero)
+
+    pub own-hit : (r : Option ℕ) → keyHit a key ≡ r → hit a (baseAt d f here) key ≡ r
+    own-hit r e = rw own-segment at e
+
+    -- The first usable slot is in the window, and not live.
+    usable-slot : (j : ℕ) → keyUsable a key ≡ some j
+        → List·Memᴰ j (window key) × (live (localDepth (f here)) (bitsAt g f here) (keyAt a (baseAt d f here) j) ≡ false)
+    unfolding firstUsable usable
+    usable-slot j e =
+        let first = first-some (usable a (keySegment a key) (localDepth (keyEntry a key)) (keyBits a key)) (window key) j e in
+        let stale : live (localDepth (keyEntry a key)) (keyBits a key) (keyAt a (keySegment a key) j) ≡ false =
+                not-true (live (localDepth (keyEntry a key)) (keyBits a key) (keyAt a (keySegment a key) j)) (first .1)
+        in
+        (first .0, rw (own-segment, own-bits, own-entry) at stale)
+
+    -- ---- The choices of a slot
+
+    -- A change of the key's block.
+    changed : {m′ : Map} (b : List ℕ) → BlockChanged m m′ g d S f here a b → Whole m′ d S b
+    changed b ch =
+        record
+          { g = g
+          ; f = f
+          ; inv = block-changed here (index-lt key g) b inv same ch
+          ; recovered = block-recovered here (index-lt key g) b inv same ch
+          }
+
+    unchanged : Whole m d S a
+    unchanged = record { g = g; f = f; inv = inv; recovered = same }
+
+    put-found : (key ≡ 0 → ⊥) → (j : ℕ) → keyHit a key ≡ some j → PutKept m d S key value (renewed a key value j) a
+    unfolding fed apply
+    put-found nonzero j e =
+        record
+          { prefixes = λ k h.
+              rw (exec-not-made (store (valueAddress (keySegment a key) j) value ∷ []) k a (omega arith)) (whole-kept unchanged)
+          ; whole = rw own-segment (changed _ (new-value inv here (index-lt key g) key j value (own-live nonzero) (own-hit (some j) e)))
+          ; not-cut = refl
+          ; no-damage = refl
+          }
+
+    -- A slot that is not live takes the value, which is not seen, and then the key.
+    module _ (nonzero : key ≡ 0 → ⊥) (j : ℕ) (window-slot : List·Memᴰ j (window key))
+        (absent-so-far : hit a (baseAt d f here) key ≡ none)
+        (stale : live (localDepth (f here)) (bitsAt g f here) (keyAt a (baseAt d f here) j) ≡ false) where
+      abbrev base : ℕ
+      base = baseAt d f here
+
+      abbrev valued : List ℕ
+      valued = set a (valueAddress base j) value
+
+      with-value : BlockChanged m m g d S f here a valued
+      with-value = value-unseen inv here (index-lt key g) j value (window-lt key j window-slot) stale
+
+      in-array : valueAddress base j < length a
+      in-array =
+          let inside : valueAddress base j < wordsFor d S =
+                  value-inside d S (segmentOf (f here)) j (inv .directory .below here (index-lt key g)) (window-lt key j window-slot) .below
+          in
+          let fits : wordsFor d S ≤ length a = inv .shape .room in
+          omega arith
+
+      with-key : BlockChanged m (updated m key (some value)) g d S f here valued (set valued (keyAddress base j) key)
+      with-key =
+          new-key (block-changed here (index-lt key g) valued inv same with-value) here (index-lt key g) key j value (own-live nonzero) window-slot
+            (hit-after-value a base j value key ∙ absent-so-far)
+            (rw (key-after-value a base j value j) stale)
+            (word-set-same a (valueAddress base j) value in-array)
+
+      inserted-whole : Whole (updated m key (some value)) d S (set valued (keyAddress base j) key)
+      inserted-whole =
+          let inv₁ = block-changed here (index-lt key g) valued inv same with-value in
+          let same₁ = block-recovered here (index-lt key g) valued inv same with-value in
+          record
+            { g = g
+            ; f = f
+            ; inv = block-changed here (index-lt key g) _ inv₁ same₁ with-key
+            ; recovered = block-recovered here (index-lt key g) _ inv₁ same₁ with-key
+            }
+
+      inserted-prefixes : (k : ℕ) → k < 2 → Kept m d S (exec (store (valueAddress base j) value ∷ store (keyAddress base j) key ∷ []) k a)
+      unfolding exec apply
+      inserted-prefixes zero h = whole-kept unchanged
+      inserted-prefixes (suc zero) h = whole-kept (changed valued with-value)
+      inserted-prefixes (suc (suc k)) h = absurd (not-suc-le-zero (le-of-suc-le-suc (le-of-suc-le-suc h)))
+
+    put-into : (key ≡ 0 → ⊥) → (j : ℕ) → keyHit a key ≡ none → keyUsable a key ≡ some j → PutKept m d S key value (inserted a key value j) a
+    unfolding fed apply
+    put-into nonzero j e u =
+        let slot = usable-slot j u in
+        let none-there = own-hit none e in
+        rw own-segment
+          (record
+            { prefixes = inserted-prefixes nonzero j (slot .0) none-there (slot .1)
+            ; whole = inserted-whole nonzero j (slot .0) none-there (slot .1)
+            ; not-cut = refl
+            ; no-damage = refl
+            })
+
+  -- ---- A split, and then the put again
+
+  module _ {m : Map} {d S : ℕ} (a : List ℕ) (ss : List Store) (p : Plan Said) (kept : Always (Kept m d S) ss a)
+      (again : PutKept m d S key value p (apply ss a)) where
+    prefixes-after : (k : ℕ) → k < length (ss ++ p .due) → Kept m d S (exec (ss ++ p .due) k a)
+    prefixes-after k h =
+        ⊎-elim
+          (λ (l : leb k (length ss) ≡ true).
+            rw (exec-append ss (p .due) k a, exec-not-made (p .due) (k - length ss) (exec ss k a) (omega (arith, leb-true k (length ss) l)))
+              (kept k))
+          (λ (l : leb k (length ss) ≡ false).
+            let past : length ss < k = leb-false k (length ss) l in
+            rw (exec-append ss (p .due) k a, exec-all ss k a (omega arith))
+              (again .prefixes (k - length ss) (omega (arith, rw (length-append ss (p .due)) at h))))
+          (cases (leb k (length ss)))
+
+    put-after-split : PutKept m d S key value (ss then p) a
+    put-after-split =
+        record
+          { prefixes = prefixes-after
+          ; whole = rw (apply-append ss (p .due) a) (again .whole)
+          ; not-cut = again .not-cut
+          ; no-damage = again .no-damage
+          }
+
+  -- ---- The put
+
+  -- What is shown of a put's plan, by induction over its splits.
+  abbrev Claim : List ℕ → Plan Said → Type 0
+  Claim a p = (m : Map) (g d S : ℕ) (f : ℕ → ℕ) → Inv m g d S f a → Recovered g f a → PutKept m d S key value p a
+
+  claims : (key ≡ 0 → ⊥) → Cases key value Claim
+  claims nonzero =
+      record
+        { when-refused = λ a r e m g d S f inv same. absurd (none-some r (sym (inv-put-tests inv key nonzero same) ∙ e))
+        ; when-found = λ a j ok c m g d S f inv same. put-found inv same nonzero j (choice-found a key j c)
+        ; when-into = λ a j ok c m g d S f inv same.
+            let at = choice-into a key j c in
+            put-into inv same nonzero j (at .0) (at .1)
+        ; when-deep = λ a ok c deep m g d S f inv same. nothing-due key value TooDeep refl refl (unchanged inv same)
+        ; when-none = λ a ok c low free m g d S f inv same. nothing-due key value NoSegment refl refl (unchanged inv same)
+        ; when-split = λ a n ok c free s again m g d S f inv same.
+            let w = split-whole inv same key n (s .local-room) free in
+            put-after-split a (splitting a key n) _ (split-kept inv same key n (s .local-room) free)
+              (again m (w .g) d S (w .f) (w .inv) (w .recovered))
+        }
+    where
+      none-some : (r : Refusal) → none ≡ some r → ⊥
+      none-some r e = let z : _≡_ {A = ℕ} 0 1 = cc in omega arith
+
+  pub put-kept : (key ≡ 0 → ⊥) → {m : Map} {g d S : ℕ} {f : ℕ → ℕ} (a : List ℕ) → Inv m g d S f a → Recovered g f a
+      → PutKept m d S key value (put a key value) a
+  put-kept nonzero {m} {g} {d} {S} {f} a inv same = put-induction key value Claim (claims nonzero) a m g d S f inv same

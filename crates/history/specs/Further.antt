@@ -1,0 +1,46 @@
+-- What else is shown of every run of the index.
+-- Assumes nothing.
+use Prim.Native.Nat.{ℕ, _^_, _≤_}
+use mathlib.Core.Path.{_≡_}
+use mathlib.Core.Bool.{Bool, true, false, not, _&&_, _||_}
+use mathlib.Core.List.{List, [], _∷_}
+use lib.ListN.{length}
+use Rattle.stores.specs.Plan.{Outcome}
+use Rattle.rules.specs.declared.Call.the-variants.{Mend, List as ListCall}
+use Rattle.rules.specs.declared.Answer.{Answer}
+use Rattle.rules.specs.Layout.{depth}
+use Rattle.rules.specs.Replies.{Said, done, saidBy}
+use Rattle.rules.specs.Listing.{Listed}
+use Rattle.rules.specs.Step.{step, Performed}
+use Rattle.history.specs.Run.{Machine, Point, start, isRefusal, next, finish, validRun}
+use Rattle.history.specs.History.{Request, index, Formatted, CoveredPoint}
+use Rattle.history.specs.Listing.{ListsMap}
+
+-- The reply is 1, 3 or 4.
+abbrev pub saysDamage : Said → Bool
+saysDamage said = isRefusal 1 said || (isRefusal 3 said || isRefusal 4 said)
+
+-- No call of the run answers 1, 3 or 4.
+unfoldable pub neverDamage : (M : Machine) → Point → List (M .Call) → Bool
+neverDamage M p [] = true
+neverDamage M p (c ∷ cs) = not (saysDamage ((M .step (p .array) c) .reply)) && neverDamage M (next M p c) cs
+
+-- In a run no call answers 1, 3 or 4.
+abbrev pub NeverDamage : Type 0
+NeverDamage =
+    (a : List ℕ) → Formatted a → (calls : List Request) → validRun index (start a) calls ≡ true → neverDamage index (start a) calls ≡ true
+
+-- A mend at any point of a run is done if it may make as many stores as the directory has entries; at most 4,096.
+abbrev pub MendSuffices : Type 0
+MendSuffices =
+    (p : Point) → CoveredPoint p → (allowance room : ℕ) → 2 ^ depth (p .array) ≤ allowance
+    → (step (p .array) room (Mend allowance)) .reply ≡ done []
+
+-- A performed list that is done, where the store needs no recovery, has left the map's records, in some order.
+abbrev pub ListIsMap : Type 0
+ListIsMap =
+    (p : Point) → CoveredPoint p → p .needsRecovery ≡ false
+    → (l : List ℕ) (answer : Answer) (a′ l′ : List ℕ) (count : ℕ)
+    → Performed ListCall (p .array) l answer a′ l′
+    → saidBy (answer .reply) ≡ done (count ∷ [])
+    → (listed : Listed (p .array) l l′) × ListsMap (p .map) (listed .order) × (count ≡ length (listed .order))
