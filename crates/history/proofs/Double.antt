@@ -1,22 +1,21 @@
 -- The doubling of the directory: the map is kept after every number of its stores, and what the whole of it leaves.
 -- Assumes nothing.
-use mathlib.Core.Path.{_≡_, refl, sym, ap, _∙_}
-use mathlib.Core.List.{List, [], _∷_, _++_, List·Memᴰ}
-use Prim.Native.Nat.{ℕ, zero, suc, _+_, _*_, _/_, _^_, _≤_, _<_}
+use mathlib.Core.Path.{_≡_, sym, ap, _∙_}
+use mathlib.Core.List.{List, [], _∷_, List·Memᴰ}
+use Prim.Native.Nat.{ℕ, suc, _/_, _^_, _≤_, _<_}
 use native.Mathlib.Omega.{arith}
-use lib.ListN.{length}
 use lib.Pow.{pow-mono, pow-pos}
-use Rattle.stores.specs.Store.{Store, word, store, apply, exec, Every}
+use Rattle.stores.specs.Store.{Store, word, store, apply, exec}
 use Rattle.stores.proofs.Stores.{apply-append, length-exec}
-use Rattle.rules.specs.Layout.{depth, maxDepth, segments, header, entryAddress, entryAt, segmentOf, localDepth, segmentAddress, keyAt}
-use Rattle.rules.specs.Keys.{blockBits, window}
+use Rattle.rules.specs.Layout.{depth, maxDepth, segments, header, entryAddress, entryAt, segmentOf, localDepth, keyAt}
+use Rattle.rules.specs.Keys.{window}
 use Rattle.rules.specs.Split.{doubling}
-use Rattle.rules.proofs.Words.{entry-from, entry-to, Within, within-inside}
+use Rattle.rules.proofs.Words.{entry-to, within-inside}
 use Rattle.rules.proofs.Keys.{bits-doubled}
 use Rattle.rules.proofs.Split.{Entry, doubledEntries, doubled-entries, doubling-parts, doubled-word-0, Doubled, after-doubling}
 use Rattle.history.specs.Map.{Map}
 use Rattle.history.proofs.Holds.{Holds}
-use Rattle.history.proofs.Invariant.{Shape, Directory, Inv, Recovered, LiveAt, SameBlock, bitsAt, baseAt, SegmentSame, Framed, inv-framed, recovered-lookups, shape-depth, shape-maxDepth, shape-segments, shape-valid, same-key, same-holds}
+use Rattle.history.proofs.Invariant.{Shape, Directory, Inv, Recovered, LiveAt, bitsAt, baseAt, SegmentSame, Framed, inv-framed, recovered-lookups, shape-depth, shape-maxDepth, shape-segments, shape-valid, same-key, same-holds}
 use Rattle.history.proofs.Prefixes.{Kept, Always, always-whole, always-append, always-one, exec-elsewhere}
 
 -- The directory of the next depth: each entry twice.

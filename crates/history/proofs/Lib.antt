@@ -5,8 +5,10 @@ pub mod Recover
 pub mod Prefixes
 pub mod Changes
 pub mod Double
+pub mod Halve
+pub mod Split
 pub mod Mend
 pub mod Format
 pub mod Listing
-pub mod Split
+pub mod Plans
 pub mod Put

@@ -1,21 +1,21 @@
 -- What holds after every number of stores: the map kept under every allowance, and what is read after a prefix of stores.
 -- Assumes nothing.
-use mathlib.Core.Path.{_≡_, refl, sym, ap, _∙_}
-use mathlib.Core.Bool.{Bool, true, false}
+use mathlib.Core.Path.{_≡_, sym, ap, _∙_}
+use mathlib.Core.Bool.{true, false}
 use mathlib.Core.List.{List, [], _∷_, _++_, append-nil}
 use mathlib.Core.Logic.{_⊎_, inl, inr, ⊎-elim}
-use Prim.Native.Nat.{ℕ, zero, suc, _+_, _-_, _≤_, _<_, min}
-use native.Mathlib.Nat.{le-refl, le-step, le-total, min-eq-left, min-eq-right, eq-or-lt-of-le, le-of-suc-le-suc}
+use Prim.Native.Nat.{ℕ, zero, suc, _-_, _≤_, _<_, min}
+use native.Mathlib.Nat.{le-refl, le-step, min-eq-left, min-eq-right}
 use native.Mathlib.Omega.{arith}
 use borrow.Author.Tests.{leb-true, leb-false}
 use lib.Dec.{leb}
 use lib.ListN.{length, take}
 use lib.Seq.{take-all, take-nil}
-use Rattle.stores.specs.Lists.{pick, each}
+use Rattle.stores.specs.Lists.{each}
 use Rattle.stores.specs.Store.{Store, word, store, apply, exec, Every, writes}
 use Rattle.stores.proofs.Tests.{cases}
 use Rattle.stores.proofs.Lists.{each-zero, each-suc, length-each-ones, every-take, every-each, every-map}
-use Rattle.stores.proofs.Stores.{exec-all, exec-none, exec-not-made, take-append, exec-append, length-apply, word-elsewhere, word-apply}
+use Rattle.stores.proofs.Stores.{exec-all, exec-none, exec-not-made, take-append, exec-append, word-elsewhere, word-apply}
 use Rattle.rules.proofs.Split.{read-each}
 use Rattle.history.specs.Map.{Map}
 use Rattle.history.proofs.Invariant.{Inv, Recovered}
@@ -100,7 +100,9 @@ exec-either M ss n a all i b =
 
 -- The first n of w single stores.
 pub take-each : (f : ℕ → Store) (w n : ℕ) → take n (each (λ i. f i ∷ []) w) ≡ each (λ i. f i ∷ []) (min n w)
-take-each f zero n = rw (each-zero (λ i. f i ∷ []), take-nil {A = Store} n, min-eq-right {n = 0} {m = n} (omega arith), each-zero (λ i. f i ∷ []))
+take-each f zero n =
+    let none : each (λ i. f i ∷ []) zero ≡ [] = each-zero (λ i. f i ∷ []) in
+    rw (none, take-nil {A = Store} n, min-eq-right {n = 0} {m = n} (omega arith), none)
 take-each f (suc w) n =
     let one : ℕ → List Store = λ i. f i ∷ [] in
     let front : length (each one w) ≡ w = length-each-ones f w in

@@ -35,26 +35,10 @@ use Rattle.history.specs.Further.{saysDamage}
 use Rattle.history.proofs.Holds.{key-after-value, hit-after-value}
 use Rattle.history.proofs.Invariant.{Inv, Recovered, LiveAt, bitsAt, baseAt, live-above, live-own, block-changed, block-recovered, BlockChanged, shape-depth}
 use Rattle.history.proofs.Recover.{inv-put-tests, inv-key-entry, inv-key-segment}
-use Rattle.history.proofs.Prefixes.{Kept, Whole, whole-kept, Always}
+use Rattle.history.proofs.Prefixes.{Kept, Whole, whole-kept}
+use Rattle.history.proofs.Plans.{PlanKept, refusal-kept, plan-after}
 use Rattle.history.proofs.Changes.{new-value, value-unseen, new-key}
-use Rattle.history.proofs.Split.{split-kept, split-whole}
-
--- What a put's plan is to the map m: every number of its stores below all of them keeps m, and all of them leave what the map
--- is told; it says done, 5 or 6.
-pub record PutKept (m : Map) (d S key value : ℕ) (p : Plan Said) (a : List ℕ) : Type 0 where
-  pub prefixes : (k : ℕ) → k < length (p .due) → Kept m d S (exec (p .due) k a)
-  pub whole : Whole (fed (puts key value) (isDone (p .reply)) m) d S (apply (p .due) a)
-  pub not-cut : isRefusal 7 (p .reply) ≡ false
-  pub no-damage : saysDamage (p .reply) ≡ false
-
--- A plan without stores, that says 5 or 6.
-nothing-due : {m : Map} {d S : ℕ} (key value : ℕ) (r : Refusal) {a : List ℕ} → isRefusal 7 (refuse r) ≡ false
-    → saysDamage (refuse r) ≡ false
-    → Whole m d S a
-    → PutKept m d S key value (reply-only (refuse r)) a
-unfolding fed apply
-nothing-due key value r n b w =
-    record { prefixes = λ k h. absurd (not-suc-le-zero h); whole = w; not-cut = n; no-damage = b }
+use Rattle.history.proofs.Split.{split-keeps}
 
 module _ (key value : ℕ) where
   -- ---- The key's own block
@@ -86,7 +70,7 @@ module _ (key value : ℕ) where
     usable-slot j e =
         let first = first-some (usable a (keySegment a key) (localDepth (keyEntry a key)) (keyBits a key)) (window key) j e in
         let stale : live (localDepth (keyEntry a key)) (keyBits a key) (keyAt a (keySegment a key) j) ≡ false =
-                not-true (live (localDepth (keyEntry a key)) (keyBits a key) (keyAt a (keySegment a key) j)) (first .1)
+        not-true (live (localDepth (keyEntry a key)) (keyBits a key) (keyAt a (keySegment a key) j)) (first .1)
         in
         (first .0, rw (own-segment, own-bits, own-entry) at stale)
 
@@ -95,26 +79,26 @@ module _ (key value : ℕ) where
     -- A change of the key's block.
     changed : {m′ : Map} (b : List ℕ) → BlockChanged m m′ g d S f here a b → Whole m′ d S b
     changed b ch =
-        record
-          { g = g
-          ; f = f
-          ; inv = block-changed here (index-lt key g) b inv same ch
-          ; recovered = block-recovered here (index-lt key g) b inv same ch
-          }
+        record {
+          g = g;
+          f = f;
+          inv = block-changed here (index-lt key g) b inv same ch;
+          recovered = block-recovered here (index-lt key g) b inv same ch;
+        }
 
     unchanged : Whole m d S a
     unchanged = record { g = g; f = f; inv = inv; recovered = same }
 
-    put-found : (key ≡ 0 → ⊥) → (j : ℕ) → keyHit a key ≡ some j → PutKept m d S key value (renewed a key value j) a
+    put-found : (key ≡ 0 → ⊥) → (j : ℕ) → keyHit a key ≡ some j → PlanKept (puts key value) m d S (renewed a key value j) a
     unfolding fed apply
     put-found nonzero j e =
-        record
-          { prefixes = λ k h.
-              rw (exec-not-made (store (valueAddress (keySegment a key) j) value ∷ []) k a (omega arith)) (whole-kept unchanged)
-          ; whole = rw own-segment (changed _ (new-value inv here (index-lt key g) key j value (own-live nonzero) (own-hit (some j) e)))
-          ; not-cut = refl
-          ; no-damage = refl
-          }
+        record {
+          prefixes = λ k h.
+              rw (exec-not-made (store (valueAddress (keySegment a key) j) value ∷ []) k a (omega arith)) (whole-kept unchanged);
+          whole = rw own-segment (changed _ (new-value inv here (index-lt key g) key j value (own-live nonzero) (own-hit (some j) e)));
+          not-cut = refl;
+          no-damage = refl;
+        }
 
     -- A slot that is not live takes the value, which is not seen, and then the key.
     module _ (nonzero : key ≡ 0 → ⊥) (j : ℕ) (window-slot : List·Memᴰ j (window key))
@@ -132,7 +116,7 @@ module _ (key value : ℕ) where
       in-array : valueAddress base j < length a
       in-array =
           let inside : valueAddress base j < wordsFor d S =
-                  value-inside d S (segmentOf (f here)) j (inv .directory .below here (index-lt key g)) (window-lt key j window-slot) .below
+          value-inside d S (segmentOf (f here)) j (inv .directory .below here (index-lt key g)) (window-lt key j window-slot) .below
           in
           let fits : wordsFor d S ≤ length a = inv .shape .room in
           omega arith
@@ -140,20 +124,20 @@ module _ (key value : ℕ) where
       with-key : BlockChanged m (updated m key (some value)) g d S f here valued (set valued (keyAddress base j) key)
       with-key =
           new-key (block-changed here (index-lt key g) valued inv same with-value) here (index-lt key g) key j value (own-live nonzero) window-slot
-            (hit-after-value a base j value key ∙ absent-so-far)
-            (rw (key-after-value a base j value j) stale)
-            (word-set-same a (valueAddress base j) value in-array)
+          (hit-after-value a base j value key ∙ absent-so-far)
+          (rw (key-after-value a base j value j) stale)
+          (word-set-same a (valueAddress base j) value in-array)
 
       inserted-whole : Whole (updated m key (some value)) d S (set valued (keyAddress base j) key)
       inserted-whole =
           let inv₁ = block-changed here (index-lt key g) valued inv same with-value in
           let same₁ = block-recovered here (index-lt key g) valued inv same with-value in
-          record
-            { g = g
-            ; f = f
-            ; inv = block-changed here (index-lt key g) _ inv₁ same₁ with-key
-            ; recovered = block-recovered here (index-lt key g) _ inv₁ same₁ with-key
-            }
+          record {
+            g = g;
+            f = f;
+            inv = block-changed here (index-lt key g) _ inv₁ same₁ with-key;
+            recovered = block-recovered here (index-lt key g) _ inv₁ same₁ with-key;
+          }
 
       inserted-prefixes : (k : ℕ) → k < 2 → Kept m d S (exec (store (valueAddress base j) value ∷ store (keyAddress base j) key ∷ []) k a)
       unfolding exec apply
@@ -161,69 +145,46 @@ module _ (key value : ℕ) where
       inserted-prefixes (suc zero) h = whole-kept (changed valued with-value)
       inserted-prefixes (suc (suc k)) h = absurd (not-suc-le-zero (le-of-suc-le-suc (le-of-suc-le-suc h)))
 
-    put-into : (key ≡ 0 → ⊥) → (j : ℕ) → keyHit a key ≡ none → keyUsable a key ≡ some j → PutKept m d S key value (inserted a key value j) a
+    put-into : (key ≡ 0 → ⊥) → (j : ℕ) → keyHit a key ≡ none → keyUsable a key ≡ some j → PlanKept (puts key value) m d S (inserted a key value j) a
     unfolding fed apply
     put-into nonzero j e u =
         let slot = usable-slot j u in
         let none-there = own-hit none e in
         rw own-segment
-          (record
-            { prefixes = inserted-prefixes nonzero j (slot .0) none-there (slot .1)
-            ; whole = inserted-whole nonzero j (slot .0) none-there (slot .1)
-            ; not-cut = refl
-            ; no-damage = refl
-            })
-
-  -- ---- A split, and then the put again
-
-  module _ {m : Map} {d S : ℕ} (a : List ℕ) (ss : List Store) (p : Plan Said) (kept : Always (Kept m d S) ss a)
-      (again : PutKept m d S key value p (apply ss a)) where
-    prefixes-after : (k : ℕ) → k < length (ss ++ p .due) → Kept m d S (exec (ss ++ p .due) k a)
-    prefixes-after k h =
-        ⊎-elim
-          (λ (l : leb k (length ss) ≡ true).
-            rw (exec-append ss (p .due) k a, exec-not-made (p .due) (k - length ss) (exec ss k a) (omega (arith, leb-true k (length ss) l)))
-              (kept k))
-          (λ (l : leb k (length ss) ≡ false).
-            let past : length ss < k = leb-false k (length ss) l in
-            rw (exec-append ss (p .due) k a, exec-all ss k a (omega arith))
-              (again .prefixes (k - length ss) (omega (arith, rw (length-append ss (p .due)) at h))))
-          (cases (leb k (length ss)))
-
-    put-after-split : PutKept m d S key value (ss then p) a
-    put-after-split =
-        record
-          { prefixes = prefixes-after
-          ; whole = rw (apply-append ss (p .due) a) (again .whole)
-          ; not-cut = again .not-cut
-          ; no-damage = again .no-damage
-          }
+        (record {
+          prefixes = inserted-prefixes nonzero j (slot .0) none-there (slot .1);
+          whole = inserted-whole nonzero j (slot .0) none-there (slot .1);
+          not-cut = refl;
+          no-damage = refl;
+        })
 
   -- ---- The put
 
   -- What is shown of a put's plan, by induction over its splits.
   abbrev Claim : List ℕ → Plan Said → Type 0
-  Claim a p = (m : Map) (g d S : ℕ) (f : ℕ → ℕ) → Inv m g d S f a → Recovered g f a → PutKept m d S key value p a
+  Claim a p = (m : Map) (g d S : ℕ) (f : ℕ → ℕ) → Inv m g d S f a → Recovered g f a → PlanKept (puts key value) m d S p a
 
   claims : (key ≡ 0 → ⊥) → Cases key value Claim
+  unfolding fed
   claims nonzero =
-      record
-        { when-refused = λ a r e m g d S f inv same. absurd (none-some r (sym (inv-put-tests inv key nonzero same) ∙ e))
-        ; when-found = λ a j ok c m g d S f inv same. put-found inv same nonzero j (choice-found a key j c)
-        ; when-into = λ a j ok c m g d S f inv same.
+      record {
+        when-refused = λ a r e m g d S f inv same. absurd (none-some r (sym (inv-put-tests inv key nonzero same) ∙ e));
+        when-found = λ a j ok c m g d S f inv same. put-found inv same nonzero j (choice-found a key j c);
+        when-into = λ a j ok c m g d S f inv same.
             let at = choice-into a key j c in
-            put-into inv same nonzero j (at .0) (at .1)
-        ; when-deep = λ a ok c deep m g d S f inv same. nothing-due key value TooDeep refl refl (unchanged inv same)
-        ; when-none = λ a ok c low free m g d S f inv same. nothing-due key value NoSegment refl refl (unchanged inv same)
-        ; when-split = λ a n ok c free s again m g d S f inv same.
-            let w = split-whole inv same key n (s .local-room) free in
-            put-after-split a (splitting a key n) _ (split-kept inv same key n (s .local-room) free)
-              (again m (w .g) d S (w .f) (w .inv) (w .recovered))
-        }
+            put-into inv same nonzero j (at .0) (at .1);
+        when-deep = λ a ok c deep m g d S f inv same. refusal-kept (puts key value) TooDeep refl refl refl (unchanged inv same);
+        when-none = λ a ok c low free m g d S f inv same. refusal-kept (puts key value) NoSegment refl refl refl (unchanged inv same);
+        when-split = λ a n ok c free s again m g d S f inv same.
+            let k = split-keeps inv same key n (s .local-room) free in
+            let w = k .whole in
+            plan-after (puts key value) a (splitting a key n) _ (k .always)
+            (again m (w .g) d S (w .f) (w .inv) (w .recovered));
+      }
     where
       none-some : (r : Refusal) → none ≡ some r → ⊥
       none-some r e = let z : _≡_ {A = ℕ} 0 1 = cc in omega arith
 
   pub put-kept : (key ≡ 0 → ⊥) → {m : Map} {g d S : ℕ} {f : ℕ → ℕ} (a : List ℕ) → Inv m g d S f a → Recovered g f a
-      → PutKept m d S key value (put a key value) a
+      → PlanKept (puts key value) m d S (put a key value) a
   put-kept nonzero {m} {g} {d} {S} {f} a inv same = put-induction key value Claim (claims nonzero) a m g d S f inv same
