@@ -12,3 +12,4 @@ pub mod Format
 pub mod Listing
 pub mod Plans
 pub mod Put
+pub mod Calls

@@ -116,10 +116,11 @@ nothing-changed p view said g same no-cut no-recovery agrees no-damage =
 pub plan-carried-out : (p : Point) (view : View) (allowance : ℕ) (plan : Plan Said) {d S : ℕ}
     → PlanKept view (p .map) d S plan (p .array)
     → ((said : Said) → GetAgrees view said (p .map))
-    → ((b : Bool) → fed view b (p .map) 0 ≡ none)
+    → p .map 0 ≡ none
+    → fed view (isDone (plan .reply)) (p .map) 0 ≡ none
     → fed view false (p .map) ≡ p .map
     → CallKept p view ((changed allowance plan (p .array)) .reply) ((changed allowance plan (p .array)) .after)
-plan-carried-out p view allowance plan {d} {S} k agrees zero-none same =
+plan-carried-out p view allowance plan {d} {S} k agrees zero-before zero-after same =
     ⊎-elim
     (λ (c : Complete plan (p .array) (changed allowance plan (p .array))).
     rw (c .reply, c .after)
@@ -130,7 +131,7 @@ plan-carried-out p view allowance plan {d} {S} k agrees zero-none same =
             S = S;
             kept = whole-kept (k .whole);
             whole = λ e. k .whole;
-            zero-none = zero-none (isDone (plan .reply));
+            zero-none = zero-after;
           };
       agrees = agrees (plan .reply);
       no-damage = k .no-damage;
@@ -144,7 +145,7 @@ plan-carried-out p view allowance plan {d} {S} k agrees zero-none same =
             S = S;
             kept = rw same (k .prefixes allowance (c .fewer));
             whole = λ e. absurd (true≢false (sym (recovery-needed (p .needsRecovery) view) ∙ e));
-            zero-none = zero-none false;
+            zero-none = rw same zero-before;
           };
       agrees = agrees (refused 7);
       no-damage = refl;
