@@ -97,7 +97,7 @@ get-kept p good key =
 -- ---- List
 
 -- Where recovery is not needed, a list says how many records there are, or 10.
-list-says : {m : Map} {g d S : ℕ} {f : ℕ → ℕ} {a : List ℕ} → Inv m g d S f a → Recovered g f a → (room : ℕ)
+pub list-says : {m : Map} {g d S : ℕ} {f : ℕ → ℕ} {a : List ℕ} → Inv m g d S f a → Recovered g f a → (room : ℕ)
     → (list a room ≡ done (length (records a) ∷ [])) ⊎ (list a room ≡ refused 10)
 unfolding list listTests replied unless
 list-says {a = a} inv same room =

@@ -13,3 +13,6 @@ pub mod Listing
 pub mod Plans
 pub mod Put
 pub mod Calls
+pub mod Theorem
+pub mod Covered
+pub mod Performed
