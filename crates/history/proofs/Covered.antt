@@ -36,8 +36,8 @@ unfolding step mend
 mend-suffices p c allowance room enough =
     let inv = covered-good p c .kept .inv in
     rw (inv-mend-tests inv, tested-none)
-      (changed-complete allowance (record { due = mending (p .array); reply = done [] }) (p .array)
-        (omega (arith, mending-length inv, rw (shape-depth (inv .shape)) at enough)) .reply)
+    (changed-complete allowance (record { due = mending (p .array); reply = done [] }) (p .array)
+    (omega (arith, mending-length inv, rw (shape-depth (inv .shape)) at enough)) .reply)
 
 -- A rearrangement has the same length.
 perm-length : {rs ts : List Record} → List·Permᴰ rs ts → length rs ≡ length ts
@@ -52,10 +52,11 @@ list-left : (p : Point) → CoveredPoint p → p .needsRecovery ≡ false → (l
     → (listed : Listed (p .array) l l′) × ListsMap (p .map) (listed .order) × (count ≡ length (listed .order))
 list-left p c calm l l′ count says left =
     let good = covered-good p c in
-    let w = good .whole calm in
-    (left,
-    list-any-order (p .map) (records (p .array)) (left .order) (left .same) (records-list-map (w .inv) (w .recovered) (good .zero-none)),
-    counted (list-says (w .inv) (w .recovered) (length l)) ∙ sym (perm-length (left .same)))
+    let w = good .whole calm in (
+      left,
+      list-any-order (p .map) (records (p .array)) (left .order) (left .same) (records-list-map (w .inv) (w .recovered) (good .zero-none)),
+      counted (list-says (w .inv) (w .recovered) (length l)) ∙ sym (perm-length (left .same)),
+    )
   where
     counted : (list (p .array) (length l) ≡ done (length (records (p .array)) ∷ [])) ⊎ (list (p .array) (length l) ≡ refused 10)
         → count ≡ length (records (p .array))

@@ -1,4 +1,5 @@
 -- The proof of the history rule.
+pub mod Samples
 pub mod Holds
 pub mod Invariant
 pub mod Recover
@@ -16,3 +17,4 @@ pub mod Calls
 pub mod Theorem
 pub mod Covered
 pub mod Performed
+pub mod Instance

@@ -29,24 +29,25 @@ unfolding AgreesWithMap validRun next step
 performed-agrees p good [] linked v = λ at-end key c said says. says .said-so ∙ says .performed .reply ∙ get-is-map p good key c
 performed-agrees p good (l ∷ ls) linked v =
     let kept =
-        link-kept p good l (linked .0)
-          (and-left (mayFollow (p .needsRecovery) (viewOf (l .call)) (saidBy (l .answer .reply))) (validRun performed (next performed p l) ls) v)
-    in
-    (kept .agrees,
-    performed-agrees (next performed p l) (kept .good) ls (linked .1)
-      (and-right (mayFollow (p .needsRecovery) (viewOf (l .call)) (saidBy (l .answer .reply))) (validRun performed (next performed p l) ls) v))
+    link-kept p good l (linked .0)
+    (and-left (mayFollow (p .needsRecovery) (viewOf (l .call)) (saidBy (l .answer .reply))) (validRun performed (next performed p l) ls) v)
+    in (
+      kept .agrees,
+      performed-agrees (next performed p l) (kept .good) ls (linked .1)
+          (and-right (mayFollow (p .needsRecovery) (viewOf (l .call)) (saidBy (l .answer .reply))) (validRun performed (next performed p l) ls) v),
+    )
 
 pub performed-history-rule : PerformedHistoryRule
 unfolding step
 performed-history-rule before D S allowance l formatted says links linked v =
     performed-agrees (start (l .after))
-      (good-start (l .after)
-        (record
-          { before = before
-          ; D = D
-          ; S = S
-          ; allowance = allowance
-          ; reply = sym (formatted .reply) ∙ says
-          ; left = formatted .words
-          }))
-      links linked v
+    (good-start (l .after)
+    (record {
+      before = before;
+      D = D;
+      S = S;
+      allowance = allowance;
+      reply = sym (formatted .reply) ∙ says;
+      left = formatted .words;
+    }))
+    links linked v

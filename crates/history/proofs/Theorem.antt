@@ -27,13 +27,13 @@ pub good-start : (a : List ℕ) → Formatted a → Good (start a)
 unfolding empty
 good-start a formatted =
     let fresh = format-leaves formatted in
-    record
-      { d = fresh .D
-      ; S = fresh .S
-      ; kept = record { g = 0; f = λ i. 0; inv = fresh .inv }
-      ; whole = λ e. record { g = 0; f = λ i. 0; inv = fresh .inv; recovered = fresh .recovered }
-      ; zero-none = refl
-      }
+    record {
+      d = fresh .D;
+      S = fresh .S;
+      kept = record { g = 0; f = λ i. 0; inv = fresh .inv };
+      whole = λ e. record { g = 0; f = λ i. 0; inv = fresh .inv; recovered = fresh .recovered };
+      zero-none = refl;
+    }
 
 -- Any call that may come next, with any arguments, any allowance and any list array.
 pub call-kept : (p : Point) → Good p → (room : ℕ) (c : Call) → mayFollow (p .needsRecovery) (viewOf c) ((step (p .array) room c) .reply) ≡ true
@@ -65,9 +65,10 @@ good-next p good r rs v = call-kept p good (r .room) (r .call) (first-may p r rs
 run-agrees : (p : Point) → Good p → (calls : List Request) → validRun index p calls ≡ true → AgreesWithMap index p calls
 unfolding AgreesWithMap step
 run-agrees p good [] v = λ at-end key c said says. says ∙ get-is-map p good key c
-run-agrees p good (r ∷ rs) v =
-    (call-kept p good (r .room) (r .call) (first-may p r rs v) .agrees,
-    run-agrees (next index p r) (good-next p good r rs v) rs (rest-valid p r rs v))
+run-agrees p good (r ∷ rs) v = (
+  call-kept p good (r .room) (r .call) (first-may p r rs v) .agrees,
+  run-agrees (next index p r) (good-next p good r rs v) rs (rest-valid p r rs v),
+)
 
 -- THE THEOREM: demand 3 of document 01.
 pub history-rule : HistoryRule
@@ -80,8 +81,8 @@ unfolding neverDamage
 run-undamaged p good [] v = refl
 run-undamaged p good (r ∷ rs) v =
     and-true
-      (ap not (call-kept p good (r .room) (r .call) (first-may p r rs v) .no-damage))
-      (run-undamaged (next index p r) (good-next p good r rs v) rs (rest-valid p r rs v))
+    (ap not (call-kept p good (r .room) (r .call) (first-may p r rs v) .no-damage))
+    (run-undamaged (next index p r) (good-next p good r rs v) rs (rest-valid p r rs v))
 
 pub never-damage : NeverDamage
 never-damage a formatted calls v = run-undamaged (start a) (good-start a formatted) calls v

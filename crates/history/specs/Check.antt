@@ -11,7 +11,8 @@ use Rattle.history.specs.Map.{Map, View, formats, gets, puts, removes, m
 use Rattle.history.specs.Run.{Point, claimedAtEnd, claimed, next, validRun}
 use Rattle.history.specs.History.{Request, index}
 
-numbersSame : List ℕ → List ℕ → Bool
+-- Two lists of numbers are the same.
+unfoldable pub numbersSame : List ℕ → List ℕ → Bool
 numbersSame [] [] = true
 numbersSame [] (y ∷ ys) = false
 numbersSame (x ∷ xs) [] = false

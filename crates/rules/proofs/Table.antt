@@ -50,6 +50,11 @@ pub data Row : Type 0 where
 
 -- ---- The test
 
+-- A step that antt computes: an `unfolding` line that names it opens all definitions of the calls.
+unfoldable pub computed : List ℕ → (room : ℕ) → Call → Outcome Said
+unfolding each firstIn allBelow anyBelow apply exec cut depthIn maxDepthIn segmentsIn markIn header wordsFor validShape validHeader entryAddress segmentOf localDepth entry segmentAddress bucket bit index width blockBits blockStart live windowBucket slotsOf window inRange validLeader nextLeader leader leadersValid entriesAgree hit usable firstUsable chosen choose named freeSegment unless tested replied formatTests formatStores format keyEntry keySegment keyTests getTests valueAtHit get doubling moves copySlot copying halfEntry updating halvingOf halving doublingFor splitting directoryTests putTests keyChoice placed intoFree putUnused unused put removeTests clearedAt remove mendTests mendEntry mending mend liveRecord blockRecords records listTests list changed step
+computed a room call = step a room call
+
 numbersAgree : List ℕ → List ℕ → Bool
 numbersAgree [] [] = true
 numbersAgree [] (y ∷ ys) = false
@@ -102,6 +107,6 @@ passes (state lent before damage room call said made words entries lookups) =
 
 -- Every row of the table passes.
 unfoldable pub allPass : List Row → Bool
-unfolding each firstIn allBelow anyBelow apply exec cut depthIn maxDepthIn segmentsIn markIn header wordsFor validShape validHeader entryAddress segmentOf localDepth entry segmentAddress bucket bit index width blockBits blockStart live windowBucket slotsOf window inRange validLeader nextLeader leader leadersValid entriesAgree hit usable firstUsable chosen choose named freeSegment unless tested replied formatTests formatStores format keyEntry keySegment keyTests getTests valueAtHit get doubling moves copySlot copying halfEntry updating halvingOf halving doublingFor splitting directoryTests putTests keyChoice placed intoFree putUnused unused put removeTests clearedAt remove mendTests mendEntry mending mend liveRecord blockRecords records listTests list changed step numbersAgree saidAgree afterCalls wordsSeen entriesSeen lookupsSeen outcomePasses windowBuckets passes
+unfolding computed numbersAgree saidAgree afterCalls wordsSeen entriesSeen lookupsSeen outcomePasses windowBuckets passes
 allPass [] = true
 allPass (r ∷ rs) = passes r && allPass rs
