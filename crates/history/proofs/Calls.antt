@@ -1,45 +1,44 @@
 -- One lemma for each call: at a good point of a run the call answers as the map says, and leaves a good point.
 -- Assumes nothing.
 use mathlib.Core.Path.{_≡_, refl, sym, ap, _∙_}
-use mathlib.Core.Bool.{Bool, true, false, not, _&&_, _||_, true≢false, false≢true}
-use mathlib.Core.List.{List, [], _∷_, _++_}
+use mathlib.Core.Bool.{Bool, true, false, false≢true}
+use mathlib.Core.List.{List, [], _∷_}
 use mathlib.Core.Option.{Option, none, some}
 use mathlib.Core.Logic.{_⊎_, inl, inr, ⊎-elim}
-use Prim.Native.Nat.{ℕ, zero, suc, _*_, _^_, _≤_, _<_}
+use Prim.Native.Nat.{ℕ, zero, _*_}
 use native.Mathlib.Nat.{le-refl, not-suc-le-zero}
 use native.Mathlib.Omega.{arith}
 use borrow.Author.Tests.{eqb-true, eqb-false, not-true}
 use lib.Dec.{leb, eqb}
 use lib.ListN.{length}
-use Rattle.stores.specs.Store.{store, apply, exec}
-use Rattle.stores.specs.Plan.{Plan, Outcome, reply-only}
+use Rattle.stores.specs.Store.{store, apply}
+use Rattle.stores.specs.Plan.{Plan, reply-only}
 use Rattle.stores.proofs.Tests.{cases, or-cases}
 use Rattle.stores.proofs.Stores.{exec-all, exec-not-made}
 use Rattle.rules.specs.declared.Refusal.{Refusal}
-use Rattle.rules.specs.declared.Refusal.the-variants.{NoKey, ShortList}
-use Rattle.rules.specs.declared.Call.the-variants.{Format, Get, Put, Remove, Mend, List as ListCall}
-use Rattle.rules.specs.Layout.{depth, segmentAddress, segmentOf, entryAt, keyAddress}
+use Rattle.rules.specs.declared.Refusal.the-variants.{NoKey}
+use Rattle.rules.specs.Layout.{segmentAddress, segmentOf, entryAt, keyAddress}
 use Rattle.rules.specs.Keys.{index}
 use Rattle.rules.specs.Slots.{hit}
 use Rattle.rules.specs.Replies.{Said, done, absent, refused, refuse, unless, tested, replied}
 use Rattle.rules.specs.Format.{formatTests, format}
-use Rattle.rules.specs.Get.{keySegment, keyTests, getTests, valueAtHit, get}
+use Rattle.rules.specs.Get.{keySegment, keyTests, getTests, get}
 use Rattle.rules.specs.Put.{putTests, put}
 use Rattle.rules.specs.Remove.{removeTests, clearedAt, remove}
 use Rattle.rules.specs.Mend.{mending, mend}
 use Rattle.rules.specs.Listing.{records, listTests, list}
-use Rattle.rules.specs.Step.{changed, step}
+use Rattle.rules.specs.Step.{changed}
 use Rattle.rules.proofs.Words.{header-valid}
 use Rattle.rules.proofs.Keys.{index-lt}
 use Rattle.rules.proofs.Outcomes.{Complete, CutShort, changed-cases, refused-not-done, refused-inj, tested-none, tested-some, replied-none}
 use Rattle.rules.proofs.Put.{put-refused}
-use Rattle.history.specs.Map.{Map, View, formats, gets, puts, removes, mends, lists, isDone, fed, updated, mapSays}
-use Rattle.history.specs.Run.{Point, isRefusal, isRecovery, mayFollow, claimed, GetAgrees}
+use Rattle.history.specs.Map.{Map, formats, gets, puts, removes, mends, lists, isDone, fed, updated, mapSays}
+use Rattle.history.specs.Run.{Point, isRefusal, isRecovery, mayFollow, claimed}
 use Rattle.history.specs.Further.{saysDamage}
 use Rattle.history.proofs.Holds.{holds-found}
-use Rattle.history.proofs.Invariant.{Inv, Recovered, LiveAt, baseAt, live-own, block-changed, block-recovered, shape-depth, shape-valid}
+use Rattle.history.proofs.Invariant.{Inv, Recovered, live-own, block-changed, block-recovered, shape-valid}
 use Rattle.history.proofs.Recover.{inv-key-segment, inv-get-tests, inv-directory-tests, inv-remove-tests, inv-mend-tests}
-use Rattle.history.proofs.Prefixes.{Kept, Whole, whole-kept}
+use Rattle.history.proofs.Prefixes.{Whole, whole-kept}
 use Rattle.history.proofs.Changes.{key-removed, updated-other}
 use Rattle.history.proofs.Mend.{mending-kept, mended-recovered}
 use Rattle.history.proofs.Plans.{PlanKept, refusal-kept, Good, CallKept, nothing-changed, plan-carried-out}

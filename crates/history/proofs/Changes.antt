@@ -1,29 +1,27 @@
 -- Changes of one segment, for an index and its block's bits: a new value at the hit; value, then key, into a slot that is not
 -- live; the key cleared at the hit. The store needs no recovery before, nor after.
 -- Assumes nothing.
-use mathlib.Core.Path.{_≡_, refl, sym, ap, _∙_}
-use mathlib.Core.Bool.{Bool, true, false, true≢false}
-use mathlib.Core.List.{List, [], _∷_, List·Memᴰ}
+use mathlib.Core.Path.{_≡_, refl, sym, _∙_}
+use mathlib.Core.Bool.{true, false, true≢false}
+use mathlib.Core.List.{List, List·Memᴰ}
 use mathlib.Core.Option.{Option, none, some}
 use mathlib.Core.Logic.{⊎-elim}
-use Prim.Native.Nat.{ℕ, zero, suc, _+_, _*_, _^_, _≤_, _<_}
+use Prim.Native.Nat.{ℕ, suc, _^_, _≤_, _<_}
 use native.Mathlib.Omega.{arith}
 use borrow.Author.Tests.{eqb-true, eqb-false, eq-eqb, ne-eqb}
 use lib.Dec.{eqb}
 use lib.ListN.{length, set, length-set}
 use lib.Pow.{pow-pos}
-use Rattle.stores.specs.Lists.{pick}
-use Rattle.stores.specs.Store.{word}
 use Rattle.stores.proofs.Tests.{cases}
 use Rattle.stores.proofs.Stores.{word-set-same, word-set-other}
-use Rattle.rules.specs.Layout.{wordsFor, entryAddress, entryAt, segmentOf, localDepth, segmentAddress, keyAddress, valueAddress, keyAt, valueAt}
+use Rattle.rules.specs.Layout.{wordsFor, entryAddress, segmentOf, localDepth, segmentAddress, keyAddress, valueAddress, keyAt, valueAt}
 use Rattle.rules.specs.Keys.{live, window}
 use Rattle.rules.specs.Slots.{hit}
 use Rattle.rules.proofs.Words.{Within, within-inside, key-within, value-within, entry-inside}
 use Rattle.rules.proofs.Keys.{live-nonzero, live-empty, window-lt}
 use Rattle.history.specs.Map.{Map, updated}
-use Rattle.history.proofs.Holds.{Holds, hit-none, hit-window, hit-key, hit-absent, key-after-value, key-after-key, holds-new-value, holds-new-key, holds-removed, holds-other-value, holds-other-key}
-use Rattle.history.proofs.Invariant.{Inv, Recovered, LiveAt, SegmentSame, BlockChanged, bitsAt, baseAt}
+use Rattle.history.proofs.Holds.{Holds, hit-none, hit-window, hit-key, key-after-value, key-after-key, holds-new-value, holds-new-key, holds-removed, holds-other-value, holds-other-key}
+use Rattle.history.proofs.Invariant.{Inv, LiveAt, BlockChanged, bitsAt, baseAt}
 
 -- ---- The map with another value for one key
 

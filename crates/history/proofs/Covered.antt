@@ -4,15 +4,14 @@ use mathlib.Core.Path.{_≡_, refl, sym, ap, _∙_}
 use mathlib.Core.Bool.{true, false}
 use mathlib.Core.List.{List, [], _∷_, List·Permᴰ, List·Permᴰ·nil, List·Permᴰ·cons, List·Permᴰ·swap, List·Permᴰ·trans}
 use mathlib.Core.Logic.{_⊎_, inl, inr}
-use Prim.Native.Nat.{ℕ, suc, _^_, _≤_, _<_}
+use Prim.Native.Nat.{ℕ, suc}
 use native.Mathlib.Omega.{arith}
 use lib.ListN.{length}
-use Rattle.rules.specs.Layout.{depth}
-use Rattle.rules.specs.Replies.{done, refused, saidBy}
+use Rattle.rules.specs.Replies.{done, refused}
 use Rattle.rules.specs.Listing.{Record, Listed, records, list}
 use Rattle.rules.specs.Mend.{mending, mend}
 use Rattle.rules.specs.Get.{get}
-use Rattle.rules.specs.Step.{changed, step}
+use Rattle.rules.specs.Step.{step}
 use Rattle.rules.proofs.Outcomes.{changed-complete, refused-not-done, tested-none}
 use Rattle.history.specs.Map.{mapSays}
 use Rattle.history.specs.Run.{Point, claimed}
@@ -23,7 +22,6 @@ use Rattle.history.proofs.Invariant.{shape-depth}
 use Rattle.history.proofs.Recover.{inv-mend-tests}
 use Rattle.history.proofs.Mend.{mending-length}
 use Rattle.history.proofs.Listing.{records-list-map, list-any-order}
-use Rattle.history.proofs.Plans.{Good}
 use Rattle.history.proofs.Calls.{list-says, get-is-map}
 use Rattle.history.proofs.Theorem.{covered-good}
 

@@ -12,11 +12,11 @@ use Rattle.rules.specs.Keys.{window}
 use Rattle.rules.specs.Split.{doubling}
 use Rattle.rules.proofs.Words.{entry-to, within-inside}
 use Rattle.rules.proofs.Keys.{bits-doubled}
-use Rattle.rules.proofs.Split.{Entry, doubledEntries, doubled-entries, doubling-parts, doubled-word-0, Doubled, after-doubling}
 use Rattle.history.specs.Map.{Map}
 use Rattle.history.proofs.Holds.{Holds}
 use Rattle.history.proofs.Invariant.{Shape, Directory, Inv, Recovered, LiveAt, bitsAt, baseAt, SegmentSame, Framed, inv-framed, recovered-lookups, shape-depth, shape-maxDepth, shape-segments, shape-valid, same-key, same-holds}
 use Rattle.history.proofs.Prefixes.{Kept, Always, always-whole, always-append, always-one, exec-elsewhere}
+use Rattle.rules.proofs.Doubling.{Entry, doubledEntries, doubled-entries, doubling-parts, doubled-word-0, Doubled, after-doubling}
 
 -- The directory of the next depth: each entry twice.
 abbrev pub doubledDirectory : (ℕ → ℕ) → ℕ → ℕ

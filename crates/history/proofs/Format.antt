@@ -1,36 +1,36 @@
 -- A format that answers done leaves a store that the invariant holds of, with the empty map, whatever stood there before.
 -- Assumes nothing.
-use mathlib.Core.Path.{_≡_, refl, sym, ap, _∙_}
-use mathlib.Core.Bool.{Bool, true, false, _&&_, _||_}
-use mathlib.Core.List.{List, [], _∷_, _++_, List·Memᴰ}
-use mathlib.Core.Option.{Option, none, some}
+use mathlib.Core.Path.{_≡_, refl, sym, _∙_}
+use mathlib.Core.Bool.{true, _&&_}
+use mathlib.Core.List.{List, [], _∷_, List·Memᴰ}
+use mathlib.Core.Option.{none}
 use mathlib.Core.Logic.{⊎-elim}
-use Prim.Native.Nat.{ℕ, zero, suc, _+_, _*_, _^_, _≤_, _<_}
+use Prim.Native.Nat.{ℕ, suc, _^_, _≤_, _<_}
 use native.Mathlib.Omega.{arith}
 use borrow.Author.Tests.{eq-eqb, leb-true}
 use lib.Dec.{leb, eqb}
 use lib.ListN.{length, set}
 use lib.Pow.{pow-pos}
-use Rattle.stores.specs.Lists.{pick, each}
-use Rattle.stores.specs.Store.{Store, word, store, apply, Every, writes}
+use Rattle.stores.specs.Lists.{each}
+use Rattle.stores.specs.Store.{Store, word, store, apply, writes}
 use Rattle.stores.proofs.Tests.{and-left, and-right, or-right}
 use Rattle.stores.proofs.Lists.{every-each, any-true}
 use Rattle.stores.proofs.Stores.{apply-append, length-apply, word-apply, word-set-same, word-set-other, writes-each}
 use Rattle.rules.specs.declared.Refusal.the-variants.{BadShape, TooShort}
 use Rattle.rules.specs.declared.Call.the-variants.{Format}
-use Rattle.rules.specs.Layout.{header, wordsFor, validShape, entryAddress, entryAt, segmentOf, localDepth, segmentAddress, keyAddress, keyAt}
+use Rattle.rules.specs.Layout.{header, wordsFor, validShape, entryAddress, segmentOf, localDepth, segmentAddress, keyAddress, keyAt}
 use Rattle.rules.specs.Keys.{window}
 use Rattle.rules.specs.Replies.{done}
 use Rattle.rules.specs.Format.{formatTests, formatStores, format}
 use Rattle.rules.specs.Step.{changed, step}
 use Rattle.rules.proofs.Outcomes.{Complete, CutShort, changed-cases, refused-not-done, tests-passed, tested-none}
 use Rattle.rules.proofs.Put.{unless-none}
-use Rattle.rules.proofs.Words.{Within, within-inside, key-within}
-use Rattle.rules.proofs.Keys.{live-empty, live-nonzero, window-lt}
-use Rattle.history.specs.Map.{Map, empty}
+use Rattle.rules.proofs.Words.{within-inside, key-within}
+use Rattle.rules.proofs.Keys.{live-nonzero, window-lt}
+use Rattle.history.specs.Map.{empty}
 use Rattle.history.specs.History.{Formatted}
 use Rattle.history.proofs.Holds.{Holds}
-use Rattle.history.proofs.Invariant.{Shape, Directory, Inv, Recovered, LiveAt, baseAt, recovered-lookups}
+use Rattle.history.proofs.Invariant.{Directory, Inv, Recovered, LiveAt, baseAt, recovered-lookups}
 
 -- ---- A done format has made all its stores, on a shape and an array that allow it
 

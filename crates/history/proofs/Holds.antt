@@ -1,17 +1,15 @@
 -- What the probe window of a key holds in a segment, and how changes of the segment's slots change it.
 -- Assumes nothing.
 use mathlib.Core.Path.{_≡_, refl, sym, ap, _∙_}
-use mathlib.Core.Bool.{Bool, true, false}
-use mathlib.Core.List.{List, [], _∷_, List·Memᴰ}
+use mathlib.Core.Bool.{true, false}
+use mathlib.Core.List.{List, List·Memᴰ}
 use mathlib.Core.Option.{Option, none, some}
 use mathlib.Core.Logic.{⊎-elim}
-use Prim.Native.Nat.{ℕ, zero, suc, _+_, _*_, _<_}
+use Prim.Native.Nat.{ℕ, _<_}
 use native.Mathlib.Omega.{arith}
-use borrow.Author.Tests.{eqb-true, eqb-false, eq-eqb}
+use borrow.Author.Tests.{eqb-true, eqb-false}
 use lib.Dec.{eqb}
-use lib.ListN.{length, set, length-set}
-use Rattle.stores.specs.Lists.{firstIn}
-use Rattle.stores.specs.Store.{word}
+use lib.ListN.{length, set}
 use Rattle.stores.proofs.Tests.{cases}
 use Rattle.stores.proofs.Lists.{first-same, first-some, first-none}
 use Rattle.stores.proofs.Stores.{word-set-same, word-set-other}
@@ -19,7 +17,6 @@ use Rattle.rules.specs.Layout.{keyAddress, valueAddress, keyAt, valueAt}
 use Rattle.rules.specs.Keys.{window}
 use Rattle.rules.specs.Slots.{hit}
 use Rattle.rules.specs.Get.{valueAtHit}
-use Rattle.rules.specs.Replies.{Said}
 use Rattle.history.specs.Map.{mapSays}
 
 -- Exactly one slot of the key's probe window, in the segment at `base`, has the key, and it has the value v.

@@ -1,14 +1,12 @@
 -- The theorem at one of the sample runs, and the computed test against the claim.
 -- Assumes nothing.
 use Prim.Native.Nat.{ℕ}
-use mathlib.Core.Path.{_≡_, refl, sym, ap, _∙_}
-use mathlib.Core.Bool.{Bool, true, false, not, _&&_, _||_}
+use mathlib.Core.Path.{_≡_, refl}
+use mathlib.Core.Bool.{true, false, not}
 use mathlib.Core.List.{List, [], _∷_}
 use mathlib.Core.Logic.{⊎-elim}
-use lib.Dec.{eqb}
 use lib.ListN.{replicate}
 use borrow.Author.Tests.{eq-eqb}
-use Rattle.stores.specs.Plan.{Outcome}
 use Rattle.stores.proofs.Tests.{cases, and-true, or-right}
 use Rattle.rules.specs.declared.Call.the-variants.{Get}
 use Rattle.rules.specs.Replies.{Said, done, absent, refused}

@@ -2,11 +2,11 @@
 -- Its facts speak of an index of the directory and of its block's bits, not of a key.
 -- Assumes nothing.
 use mathlib.Core.Path.{_≡_, refl, sym, ap, _∙_}
-use mathlib.Core.Bool.{Bool, true, false, true≢false}
-use mathlib.Core.List.{List, [], _∷_, List·Memᴰ}
-use mathlib.Core.Option.{Option, none, some}
+use mathlib.Core.Bool.{true, false}
+use mathlib.Core.List.{List, List·Memᴰ}
+use mathlib.Core.Option.{Option}
 use mathlib.Core.Logic.{⊎-elim}
-use Prim.Native.Nat.{ℕ, zero, suc, _+_, _*_, _^_, _≤_, _<_}
+use Prim.Native.Nat.{ℕ, _^_, _≤_, _<_}
 use native.Mathlib.Omega.{arith}
 use borrow.Author.Tests.{eqb-true, eqb-false}
 use lib.Dec.{eqb}
@@ -14,12 +14,10 @@ use lib.ListN.{length}
 use lib.Pow.{pow-mono}
 use Rattle.stores.specs.Store.{word}
 use Rattle.stores.proofs.Tests.{cases}
-use Rattle.rules.specs.Layout.{depth, maxDepth, segments, header, wordsFor, validHeader, entryAddress, entryAt, segmentOf, localDepth, segmentAddress, keyAt, valueAt}
+use Rattle.rules.specs.Layout.{depth, maxDepth, segments, header, wordsFor, entryAt, segmentOf, localDepth, segmentAddress, keyAt, valueAt}
 use Rattle.rules.specs.Keys.{index, blockBits, blockStart, live, window}
-use Rattle.rules.specs.Scan.{inRange}
-use Rattle.rules.proofs.Words.{ValidHeader, header-valid, header-depth, header-maxDepth, header-segments, header-mark, Within, key-within, value-within}
+use Rattle.rules.proofs.Words.{ValidHeader, header-depth, header-maxDepth, header-segments, header-mark, Within, key-within, value-within}
 use Rattle.rules.proofs.Keys.{index-lt, index-shift, live-nonzero, live-index, live-true, window-lt}
-use Rattle.rules.proofs.Scan.{in-range}
 use Rattle.history.specs.Map.{Map}
 use Rattle.history.proofs.Holds.{Holds, holds-same}
 

@@ -6,6 +6,9 @@ pub mod Recover
 pub mod Prefixes
 pub mod Changes
 pub mod Double
+pub mod Halved
+pub mod Copy
+pub mod Update
 pub mod Halve
 pub mod Split
 pub mod Mend

@@ -4,7 +4,7 @@
 use mathlib.Core.Path.{_≡_, refl, sym, ap, ap₂, _∙_}
 use mathlib.Core.Bool.{Bool, true, false}
 use mathlib.Core.List.{List, [], _∷_, _++_, List·Memᴰ, List·Memᴰ·head, List·Memᴰ·tail, List·Memᴰ·not-nil, List·Memᴰ·cases-cons, List·Memᴰ·eq-of-singleton, List·Permᴰ, List·Permᴰ·nil, List·Permᴰ·cons, List·Permᴰ·swap, List·Permᴰ·trans}
-use mathlib.Core.Option.{Option, none, some}
+use mathlib.Core.Option.{none, some}
 use mathlib.Core.Logic.{⊎-elim}
 use Prim.Native.Nat.{ℕ, zero, suc, _+_, _*_, _^_, _≤_, _<_}
 use native.Mathlib.Nat.{le-refl, le-step, not-suc-le-zero, eq-or-lt-of-le, le-of-suc-le-suc}
@@ -15,12 +15,12 @@ use Rattle.stores.specs.Lists.{pick, each}
 use Rattle.stores.proofs.Tests.{cases}
 use Rattle.stores.proofs.Lists.{each-zero, each-suc, each-same, mem-each}
 use Rattle.rules.specs.Layout.{localDepth, keyAt, valueAt}
-use Rattle.rules.specs.Keys.{index, width, blockBits, blockStart, live, window}
+use Rattle.rules.specs.Keys.{index, width, blockBits, blockStart, live}
 use Rattle.rules.specs.Listing.{Record, liveRecord, blockRecords, records}
 use Rattle.rules.proofs.Keys.{index-lt, index-shift, width-pos, blockStart-bits, blockStart-le, block-same, blockStart-aligned, blockStart-self, live-index, live-true, window-lt}
 use Rattle.history.specs.Map.{Map}
 use Rattle.history.specs.Listing.{occurrences, ListsMap}
-use Rattle.history.proofs.Holds.{Holds, HoldsAt, holds-value}
+use Rattle.history.proofs.Holds.{HoldsAt, holds-value}
 use Rattle.history.proofs.Invariant.{Inv, Recovered, LiveAt, bitsAt, baseAt, shape-depth, shape-maxDepth, live-block}
 use Rattle.history.proofs.Recover.{inv-leader}
 

@@ -1,27 +1,25 @@
 -- Mending keeps the invariant under every allowance, and with enough leaves a store that needs no recovery.
 -- Assumes nothing.
-use mathlib.Core.Path.{_≡_, refl, sym, ap, _∙_}
-use mathlib.Core.Bool.{Bool, true, false, _||_}
-use mathlib.Core.List.{List, [], _∷_, _++_}
+use mathlib.Core.Path.{_≡_, refl, ap, _∙_}
+use mathlib.Core.Bool.{Bool, true, false}
+use mathlib.Core.List.{List, [], _∷_}
 use mathlib.Core.Logic.{_⊎_, inl, inr, ⊎-elim}
-use Prim.Native.Nat.{ℕ, zero, suc, _+_, _-_, _*_, _^_, _≤_, _<_}
-use native.Mathlib.Nat.{le-refl, mul-comm}
+use Prim.Native.Nat.{ℕ, suc, _-_, _*_, _^_, _≤_, _<_}
 use native.Mathlib.Omega.{arith}
-use borrow.Author.Tests.{eqb-true, eqb-false, eq-eqb, ne-eqb}
+use borrow.Author.Tests.{eqb-true, eq-eqb}
 use lib.Dec.{eqb}
 use lib.ListN.{length, take}
 use lib.Pow.{pow-pos, pow-mono}
-use Rattle.stores.specs.Lists.{pick, each, anyBelow}
+use Rattle.stores.specs.Lists.{pick, each}
 use Rattle.stores.specs.Store.{Store, word, store, apply, exec, Every, writes}
-use Rattle.stores.proofs.Tests.{cases, or-left}
+use Rattle.stores.proofs.Tests.{cases}
 use Rattle.stores.proofs.Lists.{each-same, length-each-le, every-each, every-take, every-map, any-true}
-use Rattle.stores.proofs.Stores.{length-exec, length-apply, word-elsewhere, word-apply, exec-all, writes-each}
+use Rattle.stores.proofs.Stores.{length-apply, word-elsewhere, word-apply, writes-each}
 use Rattle.rules.specs.Layout.{wordsFor, entryAddress, entryAt, segmentOf, localDepth}
-use Rattle.rules.specs.Keys.{blockStart}
 use Rattle.rules.specs.Mend.{mendEntry, mending}
-use Rattle.rules.proofs.Words.{entry-from, entry-to, entry-inside, Within, within-inside, directories-below}
+use Rattle.rules.proofs.Words.{entry-inside, within-inside, directories-below}
 use Rattle.history.specs.Map.{Map}
-use Rattle.history.proofs.Invariant.{Shape, Directory, Inv, LookupAgrees, Recovered, SegmentSame, baseAt, shape-depth, shape-kept, live-above, same-holds, same-key}
+use Rattle.history.proofs.Invariant.{Inv, LookupAgrees, Recovered, SegmentSame, shape-depth, shape-kept, live-above, same-holds, same-key}
 use Rattle.history.proofs.Recover.{inv-leading}
 
 -- b is a with some entries replaced by f's, and nothing else changed.

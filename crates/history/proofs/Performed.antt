@@ -1,17 +1,14 @@
 -- The history rule over performed calls: what programs run.
 -- Assumes nothing.
-use mathlib.Core.Path.{_≡_, refl, sym, ap, _∙_}
-use mathlib.Core.Bool.{true, _&&_}
+use mathlib.Core.Path.{_≡_, sym, _∙_}
+use mathlib.Core.Bool.{true}
 use mathlib.Core.List.{List, [], _∷_}
-use Prim.Native.Nat.{ℕ}
 use lib.ListN.{length}
-use Rattle.stores.specs.Plan.{Outcome}
 use Rattle.stores.proofs.Tests.{and-left, and-right}
-use Rattle.rules.specs.declared.Call.the-variants.{Format, Get}
-use Rattle.rules.specs.Replies.{Said, done, saidBy}
+use Rattle.rules.specs.Replies.{saidBy}
 use Rattle.rules.specs.Step.{step, Performed}
 use Rattle.history.specs.Run.{Point, start, mayFollow, next, validRun, AgreesWithMap}
-use Rattle.history.specs.History.{viewOf, Formatted, Link, Linked, performed, PerformedHistoryRule}
+use Rattle.history.specs.History.{viewOf, Link, Linked, performed, PerformedHistoryRule}
 use Rattle.history.proofs.Plans.{Good, CallKept}
 use Rattle.history.proofs.Calls.{get-is-map}
 use Rattle.history.proofs.Theorem.{good-start, call-kept}

@@ -1,18 +1,18 @@
 -- What a plan is to the map, and what the call it is the plan of leaves of a run's point, under every allowance.
 -- Assumes nothing.
-use mathlib.Core.Path.{_≡_, refl, sym, ap, _∙_}
-use mathlib.Core.Bool.{Bool, true, false, not, _&&_, _||_, true≢false}
-use mathlib.Core.List.{List, [], _∷_, _++_}
+use mathlib.Core.Path.{_≡_, refl, sym, _∙_}
+use mathlib.Core.Bool.{Bool, true, false, true≢false}
+use mathlib.Core.List.{List, _++_}
 use mathlib.Core.Option.{none}
 use mathlib.Core.Logic.{⊎-elim}
-use Prim.Native.Nat.{ℕ, zero, suc, _-_, _<_}
+use Prim.Native.Nat.{ℕ, _-_, _<_}
 use native.Mathlib.Nat.{not-suc-le-zero}
 use native.Mathlib.Omega.{arith}
 use borrow.Author.Tests.{leb-true, leb-false}
 use lib.Dec.{leb}
 use lib.ListN.{length, length-append}
 use Rattle.stores.specs.Store.{Store, apply, exec}
-use Rattle.stores.specs.Plan.{Plan, Outcome, reply-only, _then_}
+use Rattle.stores.specs.Plan.{Plan, reply-only, _then_}
 use Rattle.stores.proofs.Tests.{cases}
 use Rattle.stores.proofs.Stores.{apply-append, exec-append, exec-all, exec-not-made}
 use Rattle.rules.specs.declared.Refusal.{Refusal}

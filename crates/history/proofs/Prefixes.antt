@@ -3,7 +3,7 @@
 use mathlib.Core.Path.{_≡_, sym, ap, _∙_}
 use mathlib.Core.Bool.{true, false}
 use mathlib.Core.List.{List, [], _∷_, _++_, append-nil}
-use mathlib.Core.Logic.{_⊎_, inl, inr, ⊎-elim}
+use mathlib.Core.Logic.{⊎-elim}
 use Prim.Native.Nat.{ℕ, zero, suc, _-_, _≤_, _<_, min}
 use native.Mathlib.Nat.{le-refl, le-step, min-eq-left, min-eq-right}
 use native.Mathlib.Omega.{arith}
@@ -12,11 +12,10 @@ use lib.Dec.{leb}
 use lib.ListN.{length, take}
 use lib.Seq.{take-all, take-nil}
 use Rattle.stores.specs.Lists.{each}
-use Rattle.stores.specs.Store.{Store, word, store, apply, exec, Every, writes}
+use Rattle.stores.specs.Store.{Store, word, store, apply, exec, Every}
 use Rattle.stores.proofs.Tests.{cases}
 use Rattle.stores.proofs.Lists.{each-zero, each-suc, length-each-ones, every-take, every-each, every-map}
-use Rattle.stores.proofs.Stores.{exec-all, exec-none, exec-not-made, take-append, exec-append, word-elsewhere, word-apply}
-use Rattle.rules.proofs.Split.{read-each}
+use Rattle.stores.proofs.Stores.{exec-all, exec-none, exec-not-made, take-append, exec-append, word-elsewhere, read-each}
 use Rattle.history.specs.Map.{Map}
 use Rattle.history.proofs.Invariant.{Inv, Recovered}
 
@@ -48,13 +47,6 @@ module _ (P : List ℕ → Type 0) where
   pub always-whole : (ss : List Store) (a : List ℕ) → Always P ss a → P (apply ss a)
   always-whole ss a h = rw (exec-all ss (length ss) a (le-refl (length ss))) at (h (length ss))
 
-  pub always-first : (ss : List Store) (a : List ℕ) → Always P ss a → P a
-  always-first ss a h = rw (exec-none ss a) at (h 0)
-
-  pub always-none : (a : List ℕ) → P a → Always P [] a
-  unfolding exec apply
-  always-none a h n = rw (take-nil {A = Store} n) h
-
   pub always-append : (ss tt : List Store) (a : List ℕ) → Always P ss a → Always P tt (apply ss a) → Always P (ss ++ tt) a
   always-append ss tt a h k n =
       ⊎-elim
@@ -84,17 +76,6 @@ pub apply-elsewhere : (P : ℕ → Type 0) (ss : List Store) (a : List ℕ) (i :
     → word (apply ss a) i ≡ word a i
 apply-elsewhere P ss a i all other =
     word-elsewhere ss a i (every-map (λ s. P (s .at)) (λ s. s .at ≡ i → ⊥) (λ s p e. other (rw e at p)) ss all)
-
--- Where each store writes M of its address, a word is the old one or M there.
-pub exec-either : (M : ℕ → ℕ) (ss : List Store) (n : ℕ) (a : List ℕ) → Every (λ s. s .value ≡ M (s .at)) ss → (i : ℕ) → i < length a
-    → (word (exec ss n a) i ≡ word a i) ⊎ (word (exec ss n a) i ≡ M i)
-unfolding exec
-exec-either M ss n a all i b =
-    let read = word-apply M (take n ss) a (every-take (λ s. s .value ≡ M (s .at)) n ss all) i b in
-    ⊎-elim
-    (λ (t : writes (take n ss) i ≡ true). inr (rw t at read))
-    (λ (t : writes (take n ss) i ≡ false). inl (rw t at read))
-    (cases (writes (take n ss) i))
 
 -- ---- Stores one by one
 

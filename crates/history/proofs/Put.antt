@@ -1,37 +1,31 @@
 -- A put of a key but 0 keeps the map under every allowance, and whole it leaves what the map is told of it.
 -- Assumes nothing.
 use mathlib.Core.Path.{_≡_, refl, sym, ap, _∙_}
-use mathlib.Core.Bool.{Bool, true, false, not, _&&_, _||_}
-use mathlib.Core.List.{List, [], _∷_, _++_, List·Memᴰ}
+use mathlib.Core.Bool.{false}
+use mathlib.Core.List.{List, [], _∷_, List·Memᴰ}
 use mathlib.Core.Option.{Option, none, some}
-use mathlib.Core.Logic.{⊎-elim}
-use Prim.Native.Nat.{ℕ, zero, suc, _+_, _-_, _*_, _^_, _≤_, _<_}
+use Prim.Native.Nat.{ℕ, zero, suc, _≤_, _<_}
 use native.Mathlib.Nat.{not-suc-le-zero, le-of-suc-le-suc}
 use native.Mathlib.Omega.{arith}
-use borrow.Author.Tests.{leb-true, leb-false, not-true}
-use lib.Dec.{leb}
-use lib.ListN.{length, set, length-append, length-set}
-use Rattle.stores.specs.Store.{Store, store, apply, exec}
-use Rattle.stores.specs.Plan.{Plan, reply-only, _then_}
-use Rattle.stores.proofs.Tests.{cases}
+use borrow.Author.Tests.{not-true}
+use lib.ListN.{length, set}
+use Rattle.stores.specs.Store.{store, apply, exec}
+use Rattle.stores.specs.Plan.{Plan}
 use Rattle.stores.proofs.Lists.{first-some}
-use Rattle.stores.proofs.Stores.{apply-append, exec-append, exec-all, exec-none, exec-not-made, word-set-same, word-set-other}
+use Rattle.stores.proofs.Stores.{exec-not-made, word-set-same}
 use Rattle.rules.specs.declared.Refusal.{Refusal}
 use Rattle.rules.specs.declared.Refusal.the-variants.{TooDeep, NoSegment}
-use Rattle.rules.specs.Layout.{depth, maxDepth, wordsFor, entryAt, segmentOf, localDepth, segmentAddress, keyAddress, valueAddress, keyAt, valueAt}
-use Rattle.rules.specs.Keys.{index, blockBits, live, window}
-use Rattle.rules.specs.Slots.{found, into, full, hit, usable, firstUsable, freeSegment}
-use Rattle.rules.specs.Replies.{Said, done, refused, refuse}
+use Rattle.rules.specs.Layout.{wordsFor, segmentOf, localDepth, segmentAddress, keyAddress, valueAddress, keyAt}
+use Rattle.rules.specs.Keys.{index, live, window}
+use Rattle.rules.specs.Slots.{hit, usable, firstUsable}
+use Rattle.rules.specs.Replies.{Said}
 use Rattle.rules.specs.Get.{keyEntry, keySegment}
 use Rattle.rules.specs.Split.{splitting}
-use Rattle.rules.specs.Put.{putTests, keyChoice, put}
-use Rattle.rules.proofs.Words.{key-inside, value-inside}
+use Rattle.rules.specs.Put.{put}
+use Rattle.rules.proofs.Words.{value-inside}
 use Rattle.rules.proofs.Keys.{index-lt, window-lt}
-use Rattle.rules.proofs.Split.{keyBits, Splittable}
-use Rattle.rules.proofs.Put.{Passed, choice-found, choice-into, keyHit, keyUsable, renewed, inserted, Cases, put-induction}
-use Rattle.history.specs.Map.{Map, View, puts, isDone, fed, updated}
-use Rattle.history.specs.Run.{isRefusal}
-use Rattle.history.specs.Further.{saysDamage}
+use Rattle.rules.proofs.Put.{choice-found, choice-into, keyHit, keyUsable, renewed, inserted, Cases, put-induction}
+use Rattle.history.specs.Map.{Map, puts, fed, updated}
 use Rattle.history.proofs.Holds.{key-after-value, hit-after-value}
 use Rattle.history.proofs.Invariant.{Inv, Recovered, LiveAt, bitsAt, baseAt, live-above, live-own, block-changed, block-recovered, BlockChanged, shape-depth}
 use Rattle.history.proofs.Recover.{inv-put-tests, inv-key-entry, inv-key-segment}
@@ -39,6 +33,7 @@ use Rattle.history.proofs.Prefixes.{Kept, Whole, whole-kept}
 use Rattle.history.proofs.Plans.{PlanKept, refusal-kept, plan-after}
 use Rattle.history.proofs.Changes.{new-value, value-unseen, new-key}
 use Rattle.history.proofs.Split.{split-keeps}
+use Rattle.rules.proofs.Halving.{keyBits}
 
 module _ (key value : ℕ) where
   -- ---- The key's own block

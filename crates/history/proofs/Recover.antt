@@ -1,20 +1,20 @@
 -- Under the invariant the scan of the directory finds the blocks of f: every leader is valid and stands for f's entry. So the
 -- tests of the calls pass.
 -- Assumes nothing.
-use mathlib.Core.Path.{_≡_, refl, sym, ap, _∙_}
-use mathlib.Core.Bool.{Bool, true, false, not}
-use mathlib.Core.List.{List, [], _∷_}
-use mathlib.Core.Option.{Option, none, some}
+use mathlib.Core.Path.{_≡_, sym, ap, _∙_}
+use mathlib.Core.Bool.{true, false}
+use mathlib.Core.List.{List}
+use mathlib.Core.Option.{Option, none}
 use mathlib.Core.Logic.{⊎-elim}
-use Prim.Native.Nat.{ℕ, zero, suc, _+_, _*_, _%_, _^_, _≤_, _<_}
-use native.Mathlib.Nat.{le-refl, le-trans, eq-or-lt-of-le, add-mod-right}
+use Prim.Native.Nat.{ℕ, zero, suc, _+_, _%_, _^_, _≤_, _<_}
+use native.Mathlib.Nat.{le-refl, eq-or-lt-of-le, add-mod-right}
 use native.Mathlib.Omega.{arith}
 use borrow.Author.Tests.{eqb-true, eqb-false, eq-eqb, ne-eqb}
 use lib.Dec.{eqb}
 use Rattle.stores.proofs.Tests.{cases}
 use Rattle.stores.proofs.Lists.{all-true}
 use Rattle.rules.specs.declared.Refusal.{Refusal}
-use Rattle.rules.specs.Layout.{depth, maxDepth, segments, entryAt, segmentOf, localDepth, segmentAddress}
+use Rattle.rules.specs.Layout.{entryAt, segmentOf, localDepth, segmentAddress}
 use Rattle.rules.specs.Keys.{index, width, blockBits, blockStart}
 use Rattle.rules.specs.Scan.{leader, leadingEntry, leadersValid, entriesAgree}
 use Rattle.rules.specs.Replies.{unless}
@@ -26,7 +26,7 @@ use Rattle.rules.proofs.Words.{header-valid}
 use Rattle.rules.proofs.Keys.{index-lt, width-pos, blockStart-le, in-block, blockStart-aligned, blockStart-self, block-same, block-same-start}
 use Rattle.rules.proofs.Scan.{in-range, valid-leader, leader-zero, leader-new, leader-kept}
 use Rattle.history.specs.Map.{Map}
-use Rattle.history.proofs.Invariant.{Shape, Directory, Inv, LookupAgrees, Recovered, baseAt, shape-depth, shape-maxDepth, shape-segments, shape-valid}
+use Rattle.history.proofs.Invariant.{Inv, Recovered, shape-depth, shape-maxDepth, shape-segments, shape-valid}
 
 -- ---- Leaders
 

@@ -6,13 +6,12 @@ use mathlib.Core.Bool.{Bool, true, false, not, _&&_, _||_}
 use mathlib.Core.List.{List, [], _∷_, _++_}
 use lib.ListN.{replicate}
 use Rattle.stores.specs.Lists.{each}
-use Rattle.stores.specs.Plan.{Outcome}
 use Rattle.rules.specs.declared.Call.{Call}
 use Rattle.rules.specs.declared.Call.the-variants.{Format, Get, Put, Remove, Mend, List as ListCall}
 use Rattle.rules.specs.Step.{step}
 use Rattle.rules.proofs.Table.{computed}
 use Rattle.history.specs.Map.{empty, updated, fed}
-use Rattle.history.specs.Run.{Point, start, mayFollow, isRecovery, recoveryAfter, claimedAtEnd, claimed, next, validRun}
+use Rattle.history.specs.Run.{start, mayFollow, isRecovery, recoveryAfter, claimedAtEnd, claimed, next, validRun}
 use Rattle.history.specs.History.{Request, index}
 use Rattle.history.specs.Check.{sameSaid, getAgrees, getsAgree, agrees}
 

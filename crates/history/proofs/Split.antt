@@ -1,16 +1,15 @@
 -- A split keeps the map after every number of its stores, and whole it leaves a store that needs no recovery.
 -- Assumes nothing.
-use mathlib.Core.Path.{_≡_, refl, sym, ap, _∙_}
-use mathlib.Core.Bool.{Bool, true, false, true≢false}
-use mathlib.Core.List.{List, [], _++_}
+use mathlib.Core.Path.{_≡_, sym, ap, _∙_}
+use mathlib.Core.Bool.{true, false, true≢false}
+use mathlib.Core.List.{List, _++_}
 use mathlib.Core.Option.{some}
 use mathlib.Core.Logic.{⊎-elim}
-use Prim.Native.Nat.{ℕ, zero, suc, _/_, _^_, _≤_, _<_}
+use Prim.Native.Nat.{ℕ, suc, _/_, _^_, _≤_, _<_}
 use native.Mathlib.Omega.{arith}
 use borrow.Author.Tests.{eqb-true, eqb-false, eq-eqb}
 use lib.Dec.{eqb}
-use Rattle.stores.specs.Lists.{pick, anyBelow}
-use Rattle.stores.specs.Store.{Store, apply, exec}
+use Rattle.stores.specs.Store.{Store, apply}
 use Rattle.stores.proofs.Tests.{cases}
 use Rattle.stores.proofs.Lists.{any-true}
 use Rattle.stores.proofs.Stores.{apply-append}
@@ -18,15 +17,16 @@ use Rattle.rules.specs.Layout.{depth, maxDepth, entryAt, segmentOf, localDepth}
 use Rattle.rules.specs.Keys.{index}
 use Rattle.rules.specs.Slots.{named, freeSegment}
 use Rattle.rules.specs.Get.{keyEntry}
-use Rattle.rules.specs.Split.{doubling, halvingOf, halving, doublingFor, splitting}
+use Rattle.rules.specs.Split.{doubling, halving, doublingFor, splitting}
 use Rattle.rules.proofs.Keys.{index-lt, index-half}
 use Rattle.rules.proofs.Put.{free-below}
 use Rattle.history.specs.Map.{Map}
 use Rattle.history.proofs.Invariant.{Inv, Recovered, shape-depth, shape-maxDepth, shape-segments}
 use Rattle.history.proofs.Recover.{inv-key-entry}
-use Rattle.history.proofs.Prefixes.{Kept, Whole, Always, always-none, always-append}
-use Rattle.history.proofs.Double.{doubledDirectory, doubling-kept, doubled, doubled-recovered}
-use Rattle.history.proofs.Halve.{halvedDirectory, halving-kept, halved, halved-recovered}
+use Rattle.history.proofs.Prefixes.{Kept, Whole, Always, always-append}
+use Rattle.history.proofs.Double.{doubling-kept, doubled, doubled-recovered}
+use Rattle.history.proofs.Halve.{halving-kept, halved, halved-recovered}
+use Rattle.history.proofs.Halved.{halvedDirectory}
 
 -- The stores ss keep the map after every number of them, and whole leave a store that needs no recovery.
 pub record SplitKept (m : Map) (d S : ℕ) (ss : List Store) (a : List ℕ) : Type 0 where

@@ -1,21 +1,18 @@
 -- The history rule. Its invariant is `Good` (Plans.antt); each call keeps it (Calls.antt); here is the induction over the run.
 -- Assumes nothing.
-use mathlib.Core.Path.{_≡_, refl, sym, ap, _∙_}
-use mathlib.Core.Bool.{Bool, true, false, not, _&&_}
+use mathlib.Core.Path.{_≡_, refl, ap, _∙_}
+use mathlib.Core.Bool.{true, not}
 use mathlib.Core.List.{List, [], _∷_}
-use mathlib.Core.Option.{none}
 use Prim.Native.Nat.{ℕ}
 use borrow.Author.Tests.{not-true}
-use Rattle.stores.specs.Plan.{Outcome}
 use Rattle.stores.proofs.Tests.{and-left, and-right, and-true}
 use Rattle.rules.specs.declared.Call.{Call}
 use Rattle.rules.specs.declared.Call.the-variants.{Format, Get, Put, Remove, Mend, List as ListCall}
-use Rattle.rules.specs.Replies.{Said}
 use Rattle.rules.specs.Step.{step}
-use Rattle.history.specs.Map.{Map, empty}
-use Rattle.history.specs.Run.{Point, start, mayFollow, claimedAtEnd, claimed, next, finish, validRun, AgreesWithMap}
+use Rattle.history.specs.Map.{empty}
+use Rattle.history.specs.Run.{Point, start, mayFollow, next, finish, validRun, AgreesWithMap}
 use Rattle.history.specs.History.{viewOf, Request, index, Formatted, HistoryRule, CoveredPoint}
-use Rattle.history.specs.Further.{saysDamage, neverDamage, NeverDamage}
+use Rattle.history.specs.Further.{neverDamage, NeverDamage}
 use Rattle.history.proofs.Format.{format-leaves}
 use Rattle.history.proofs.Plans.{Good, CallKept}
 use Rattle.history.proofs.Calls.{get-is-map, get-kept, list-kept, put-called, remove-called, mend-called, format-called}

@@ -8,7 +8,7 @@ use Rattle.rules.specs.declared.Call.the-variants.{Get}
 use Rattle.rules.specs.Replies.{Said, done, absent, refused}
 use Rattle.rules.specs.Step.{step}
 use Rattle.history.specs.Map.{Map, View, formats, gets, puts, removes, mends, lists, mapSays}
-use Rattle.history.specs.Run.{Point, claimedAtEnd, claimed, next, validRun}
+use Rattle.history.specs.Run.{Point, claimedAtEnd, claimed, next}
 use Rattle.history.specs.History.{Request, index}
 
 -- Two lists of numbers are the same.

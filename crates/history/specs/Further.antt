@@ -5,14 +5,13 @@ use mathlib.Core.Path.{_≡_}
 use mathlib.Core.Bool.{Bool, true, false, not, _&&_, _||_}
 use mathlib.Core.List.{List, [], _∷_}
 use lib.ListN.{length}
-use Rattle.stores.specs.Plan.{Outcome}
 use Rattle.rules.specs.declared.Call.the-variants.{Mend, List as ListCall}
 use Rattle.rules.specs.declared.Answer.{Answer}
 use Rattle.rules.specs.Layout.{depth}
 use Rattle.rules.specs.Replies.{Said, done, saidBy}
 use Rattle.rules.specs.Listing.{Listed}
 use Rattle.rules.specs.Step.{step, Performed}
-use Rattle.history.specs.Run.{Machine, Point, start, isRefusal, next, finish, validRun}
+use Rattle.history.specs.Run.{Machine, Point, start, isRefusal, next, validRun}
 use Rattle.history.specs.History.{Request, index, Formatted, CoveredPoint}
 use Rattle.history.specs.Listing.{ListsMap}
 

@@ -5,7 +5,6 @@ use mathlib.Core.Path.{_≡_}
 use mathlib.Core.Bool.{Bool, true, false, not, _&&_, _||_}
 use mathlib.Core.List.{List, [], _∷_}
 use lib.Dec.{eqb}
-use Rattle.stores.specs.Lists.{pick}
 use Rattle.stores.specs.Plan.{Outcome}
 use Rattle.rules.specs.Replies.{Said, done, absent, refused}
 use Rattle.history.specs.Map.{Map, View, formats, gets, puts, removes, mends, lists, empty, isDone, fed, mapSays}

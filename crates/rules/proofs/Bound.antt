@@ -22,8 +22,10 @@ use Rattle.rules.specs.Get.{keyEntry}
 use Rattle.rules.specs.Split.{doubling, moves, copySlot, copying, halfEntry, updating, halving, doublingFor, splitting}
 use Rattle.rules.specs.Put.{putTests, put}
 use Rattle.rules.proofs.Keys.{width-pos, width-full, width-half, block-end}
-use Rattle.rules.proofs.Split.{doubledEntries, doubling-parts, keyStart, keyBits, keyCopies, keyUpdates, halving-parts, Ready, ready, Splittable, AfterSplit, after-split}
 use Rattle.rules.proofs.Put.{Passed, passed, Cases, put-refused, put-induction}
+use Rattle.rules.proofs.Doubling.{doubledEntries, doubling-parts}
+use Rattle.rules.proofs.Halving.{keyStart, keyBits, keyCopies, keyUpdates, halving-parts}
+use Rattle.rules.proofs.Split.{Ready, ready, Splittable, AfterSplit, after-split}
 
 -- ---- The numbers of stores of the steps of a split
 

@@ -18,8 +18,8 @@ use Rattle.rules.specs.Replies.{Said, done, refused, numberOf}
 use Rattle.rules.specs.Get.{keyEntry, keySegment}
 use Rattle.rules.specs.Split.{splitting}
 use Rattle.rules.specs.Put.{keyChoice, put}
-use Rattle.rules.proofs.Split.{keyBits}
 use Rattle.rules.proofs.Put.{choice-full, free-none, tests-number, Cases, put-induction}
+use Rattle.rules.proofs.Halving.{keyBits}
 
 -- Every slot of the key's probe window has another key, which is live there.
 pub record FullWindow (a : List ℕ) (key : ℕ) : Type 0 where

@@ -2,16 +2,15 @@
 -- This file alone opens the definitions of `specs/Keys.antt`.
 -- Assumes nothing.
 use mathlib.Core.Path.{_≡_, refl, sym, ap, _∙_}
-use mathlib.Core.Bool.{Bool, true, false, not, _&&_, and-false}
-use mathlib.Core.List.{List, [], _∷_, List·Memᴰ, List·Memᴰ·head, List·Memᴰ·eq-of-singleton}
+use mathlib.Core.Bool.{true, false, not, _&&_, and-false}
+use mathlib.Core.List.{[], _∷_, List·Memᴰ, List·Memᴰ·head, List·Memᴰ·eq-of-singleton}
 use mathlib.Core.Logic.{⊎-elim}
 use Prim.Native.Nat.{ℕ, zero, suc, _+_, _*_, _-_, _/_, _%_, _^_, _≤_, _<_}
-use native.Mathlib.Nat.{le-refl, le-step, not-suc-le-zero, eq-or-lt-of-le, le-of-suc-le-suc, pow-succ', sub-self, sub-zero, mul-comm, mul-suc, add-mul, mod-lt, div-one, div-add-mod, div-div-eq-div-mul, div-lt-iff-lt-mul, div-eq-of-lt-le, mul-div-le, mul-mod-right, mul-le-mul-left}
+use native.Mathlib.Nat.{eq-or-lt-of-le, le-of-suc-le-suc, pow-succ', sub-self, sub-zero, mul-comm, mul-suc, add-mul, mod-lt, div-one, div-add-mod, div-div-eq-div-mul, div-lt-iff-lt-mul, div-eq-of-lt-le, mul-div-le, mul-mod-right, mul-le-mul-left}
 use native.Mathlib.Omega.{arith}
 use borrow.Author.Tests.{eqb-true, eqb-false, not-true, eq-eqb, ne-eqb}
 use lib.Dec.{eqb}
 use lib.Pow.{pow-pos, pow-add}
-use Rattle.stores.specs.Lists.{each}
 use Rattle.stores.proofs.Tests.{and-left, and-right, and-true, same-test}
 use Rattle.stores.proofs.Lists.{mem-each, each-mem}
 use Rattle.rules.specs.Keys.{bit, index, width, blockBits, blockStart, live, windowBucket, slotsOf, window}

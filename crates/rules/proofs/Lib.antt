@@ -6,6 +6,8 @@ pub mod Outcomes
 pub mod Words
 pub mod Keys
 pub mod Scan
+pub mod Doubling
+pub mod Halving
 pub mod Split
 pub mod Put
 pub mod Bound

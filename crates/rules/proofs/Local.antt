@@ -38,9 +38,10 @@ use Rattle.rules.specs.Step.{changed, unchanged, step}
 use Rattle.rules.proofs.Words.{ValidHeader, valid-header, header-valid, entry-inside, directories-below}
 use Rattle.rules.proofs.Keys.{index-lt, window-lt}
 use Rattle.rules.proofs.Scan.{range-segment, leader-le, valid-at-segment}
-use Rattle.rules.proofs.Split.{keyUpdates, Ready, ready, Splittable, AfterSplit, after-split}
 use Rattle.rules.proofs.Put.{unless-none, Passed, passed, put-refused, put-found, put-into, put-too-deep, put-no-segment, put-again, Cases, put-induction}
 use Rattle.rules.proofs.Range.{hit-slot}
+use Rattle.rules.proofs.Halving.{keyUpdates}
+use Rattle.rules.proofs.Split.{Ready, ready, Splittable, AfterSplit, after-split}
 
 -- ---- Tests and picks
 

@@ -1,22 +1,22 @@
 -- What a call that changes the array says and leaves, by whether it is cut off; and plans behind tests.
 -- Assumes nothing.
-use mathlib.Core.Path.{_≡_, refl, sym, ap, _∙_}
+use mathlib.Core.Path.{_≡_, refl, ap}
 use mathlib.Core.Bool.{true, false}
-use mathlib.Core.List.{List, [], _∷_}
+use mathlib.Core.List.{List}
 use mathlib.Core.Option.{Option, none, some}
 use mathlib.Core.Logic.{_⊎_, inl, inr, ⊎-elim}
-use Prim.Native.Nat.{ℕ, zero, suc, _≤_, _<_}
+use Prim.Native.Nat.{ℕ, _≤_, _<_}
 use native.Mathlib.Omega.{arith}
 use borrow.Author.Tests.{leb-true, leb-false}
 use lib.Dec.{leb}
 use lib.ListN.{length}
 use Rattle.stores.specs.Store.{apply, exec}
-use Rattle.stores.specs.Plan.{Plan, Outcome, reply-only, cut}
+use Rattle.stores.specs.Plan.{Plan, Outcome, reply-only}
 use Rattle.stores.proofs.Tests.{cases}
 use Rattle.stores.proofs.Plans.{cut-whole, cut-short}
 use Rattle.rules.specs.declared.Refusal.{Refusal}
 use Rattle.rules.specs.declared.Refusal.the-variants.{CutOff}
-use Rattle.rules.specs.Replies.{Said, done, absent, refused, refuse, tested, replied}
+use Rattle.rules.specs.Replies.{Said, done, refused, refuse, tested, replied}
 use Rattle.rules.specs.Step.{changed}
 
 -- ---- Cut off or not

@@ -27,7 +27,9 @@ use Rattle.rules.specs.Put.{directoryTests, putTests, keyChoice, placed,
 use Rattle.rules.proofs.Words.{ValidHeader, valid-header}
 use Rattle.rules.proofs.Keys.{index-lt}
 use Rattle.rules.proofs.Scan.{range-depth, range-segment, consistent-in-range}
-use Rattle.rules.proofs.Split.{entry-of-key, keyBits, Splittable, unused-falls}
+use Rattle.rules.proofs.Doubling.{entry-of-key}
+use Rattle.rules.proofs.Halving.{keyBits}
+use Rattle.rules.proofs.Split.{Splittable, unused-falls}
 
 -- ---- The tests
 

@@ -36,8 +36,8 @@ use Rattle.rules.specs.Mend.{mendTests, mendEntry, mending, mend}
 use Rattle.rules.specs.Step.{changed, step}
 use Rattle.rules.proofs.Words.{ValidHeader, valid-header, entry-inside, key-inside, value-inside, directories-below}
 use Rattle.rules.proofs.Keys.{window-lt}
-use Rattle.rules.proofs.Split.{splitting-in-range, AfterSplit, after-split}
 use Rattle.rules.proofs.Put.{unless-none, passed, choice-found, choice-into, put-induction}
+use Rattle.rules.proofs.Split.{splitting-in-range, AfterSplit, after-split}
 
 -- The store is below the words that D and S take.
 abbrev pub Below : (D S : ℕ) → Store → Type 0

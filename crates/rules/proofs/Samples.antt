@@ -1,7 +1,7 @@
 -- Further states, by the test of the known states: damaged arrays, cuts, stale records, listings, and what else document 01's
 -- sentences say and its table does not show.
 -- Assumes nothing.
-use Prim.Native.Nat.{ℕ, zero, suc, _+_, _*_}
+use Prim.Native.Nat.{ℕ, _+_, _*_}
 use mathlib.Core.Path.{_≡_, refl}
 use mathlib.Core.Bool.{true}
 use mathlib.Core.List.{List, [], _∷_, _++_}

@@ -1,13 +1,13 @@
 -- Document 01, 'Known index states', a to j: one table, one test, one proof.
 -- Assumes nothing.
-use Prim.Native.Nat.{ℕ, zero, suc, _+_, _*_}
+use Prim.Native.Nat.{ℕ, _+_, _*_}
 use mathlib.Core.Path.{_≡_, refl}
 use mathlib.Core.Bool.{true}
 use mathlib.Core.List.{List, [], _∷_, _++_}
 use Rattle.stores.specs.Lists.{each}
 use Rattle.stores.specs.Store.{Store, store}
 use Rattle.rules.specs.declared.Call.{Call}
-use Rattle.rules.specs.declared.Call.the-variants.{Format, Get, Put, Mend}
+use Rattle.rules.specs.declared.Call.the-variants.{Format, Put, Mend}
 use Rattle.rules.specs.Replies.{Said, done, absent, refused}
 use Rattle.rules.proofs.Table.{Names, Lookup, Row, buckets, indexed, state, allPass}
 

@@ -1,18 +1,17 @@
 -- A table of facts about the definitions, as data, and the test that a row passes. antt computes the test.
 -- Assumes nothing.
-use Prim.Native.Nat.{ℕ, zero, suc, _+_, _*_}
+use Prim.Native.Nat.{ℕ, suc}
 use mathlib.Core.Bool.{Bool, true, false, _&&_}
-use mathlib.Core.List.{List, [], _∷_, _++_}
+use mathlib.Core.List.{List, [], _∷_}
 use lib.Dec.{eqb}
-use lib.ListN.{length, replicate, getD}
-use Rattle.stores.specs.Lists.{pick, each, firstIn, allBelow, anyBelow}
-use Rattle.stores.specs.Store.{Store, word, store, apply, exec}
-use Rattle.stores.specs.Plan.{Plan, Outcome, cut}
+use lib.ListN.{replicate}
+use Rattle.stores.specs.Lists.{each, firstIn, allBelow, anyBelow}
+use Rattle.stores.specs.Store.{Store, word, apply, exec}
+use Rattle.stores.specs.Plan.{Outcome, cut}
 use Rattle.rules.specs.declared.Call.{Call}
-use Rattle.rules.specs.declared.Call.the-variants.{Format, Put}
 use Rattle.rules.specs.Layout.{depthIn, maxDepthIn, segmentsIn, markIn, header, depth, wordsFor, validShape, validHeader, entryAddress, entryAt, segmentOf, localDepth, entry, segmentAddress}
 use Rattle.rules.specs.Keys.{bucket, bit, index, width, blockBits, blockStart, live, windowBucket, slotsOf, window}
-use Rattle.rules.specs.Scan.{inRange, validLeader, ledBy, leadersFrom, nextLeader, leader, leaders, leadersValid, entriesAgree, consistent}
+use Rattle.rules.specs.Scan.{inRange, validLeader, nextLeader, leader, leadersValid, entriesAgree}
 use Rattle.rules.specs.Slots.{hit, usable, firstUsable, chosen, choose, named, freeSegment}
 use Rattle.rules.specs.Replies.{Said, done, absent, refused, unless, tested, replied}
 use Rattle.rules.specs.Format.{formatTests, formatStores, format}
@@ -21,7 +20,7 @@ use Rattle.rules.specs.Split.{doubling, moves, copySlot, copying, halfEn
 use Rattle.rules.specs.Put.{directoryTests, putTests, keyChoice, placed, intoFree, putUnused, unused, put}
 use Rattle.rules.specs.Remove.{removeTests, clearedAt, remove}
 use Rattle.rules.specs.Mend.{mendTests, mendEntry, mending, mend}
-use Rattle.rules.specs.Listing.{liveRecord, blockRecords, records, wordsOf, listTests, list}
+use Rattle.rules.specs.Listing.{liveRecord, blockRecords, records, listTests, list}
 use Rattle.rules.specs.Step.{changed, step}
 
 -- ---- Rows

@@ -1,9 +1,9 @@
 -- Document 01, 'The array of words': where each thing stands in the array that the caller lends.
 -- Assumes nothing.
-use Prim.Native.Nat.{ℕ, zero, suc, _+_, _*_, _/_, _%_, _^_}
-use mathlib.Core.Bool.{Bool, true, false, _&&_}
+use Prim.Native.Nat.{ℕ, suc, _+_, _*_, _/_, _%_, _^_}
+use mathlib.Core.Bool.{Bool, _&&_}
 use mathlib.Core.List.{List}
-use lib.Dec.{leb, ltb, eqb}
+use lib.Dec.{leb, eqb}
 use lib.ListN.{length}
 use Rattle.stores.specs.Store.{word}
 
@@ -33,13 +33,15 @@ markIn w = w / 2 ^ 32
 unfoldable pub header : (G D S : ℕ) → ℕ
 header G D S = G + 2 ^ 8 * D + 2 ^ 16 * S + 2 ^ 32 * mark
 
--- G, D and S of the array.
+-- G of the array.
 abbrev pub depth : List ℕ → ℕ
 depth a = depthIn (word a 0)
 
+-- D of the array.
 abbrev pub maxDepth : List ℕ → ℕ
 maxDepth a = maxDepthIn (word a 0)
 
+-- S of the array.
 abbrev pub segments : List ℕ → ℕ
 segments a = segmentsIn (word a 0)
 

@@ -1,12 +1,12 @@
 -- Laws of the joined list, of the first element that passes, and of tests over all numbers below a bound.
 -- Assumes nothing.
 use mathlib.Core.Path.{_≡_, refl, sym, ap, ap₂, _∙_}
-use mathlib.Core.Bool.{Bool, true, false, _&&_, _||_, true≢false, false≢true}
+use mathlib.Core.Bool.{Bool, true, false, _&&_, _||_, false≢true}
 use mathlib.Core.List.{List, [], _∷_, _++_, List·Memᴰ, List·Memᴰ·head, List·Memᴰ·tail, List·Memᴰ·not-nil, List·Memᴰ·append-cases, Memᴰ·append-left, Memᴰ·append-right}
 use mathlib.Core.Option.{Option, none, some}
-use mathlib.Core.Logic.{_⊎_, inl, inr, ⊎-elim}
+use mathlib.Core.Logic.{⊎-elim}
 use Prim.Native.Nat.{ℕ, zero, suc, _+_, _*_, _≤_, _<_}
-use native.Mathlib.Nat.{le-refl, not-suc-le-zero, eq-or-lt-of-le, le-of-suc-le-suc, le-step, add-zero, add-suc, mul-zero, mul-suc}
+use native.Mathlib.Nat.{le-refl, not-suc-le-zero, eq-or-lt-of-le, le-of-suc-le-suc, le-step, mul-suc}
 use native.Mathlib.Omega.{arith}
 use lib.ListN.{length, take, length-append}
 use Rattle.stores.specs.Lists.{pick, each, firstIn, allBelow, anyBelow}
@@ -77,6 +77,10 @@ pub every-take : (P : Store → Type 0) (n : ℕ) (ss : List Store) → Every P 
 every-take P zero ss h = Prim.tt
 every-take P (suc n) [] h = Prim.tt
 every-take P (suc n) (s ∷ ss) h = (h .0, every-take P n ss (h .1))
+
+pub every-pick : (P : Store → Type 0) (b : Bool) (ss tt : List Store) → Every P ss → Every P tt → Every P (pick b ss tt)
+every-pick P true ss tt h k = h
+every-pick P false ss tt h k = k
 
 pub every-each : (P : Store → Type 0) (f : ℕ → List Store) (n : ℕ) → ((i : ℕ) → i < n → Every P (f i)) → Every P (each f n)
 unfolding each

@@ -1,10 +1,9 @@
 -- Stores in a part of an array, and the same stores in the whole.
 -- Assumes nothing.
-use mathlib.Core.Path.{_≡_, refl, sym, ap, _∙_}
+use mathlib.Core.Path.{_≡_, refl, ap, _∙_}
 use mathlib.Core.List.{List, [], _∷_, _++_}
-use Prim.Native.Nat.{ℕ, zero, suc, _+_, _-_, _≤_, _<_}
-use native.Mathlib.Omega.{arith}
-use lib.ListN.{length, set, take, drop, length-set, length-append, length-take, length-drop}
+use Prim.Native.Nat.{ℕ, zero, suc, _+_, _<_}
+use lib.ListN.{length, set, take, length-set}
 use lib.Seq.{set-append-left}
 use Rattle.stores.specs.Store.{Store, store, apply, exec, shifted, Every}
 use Rattle.stores.proofs.Lists.{every-take}

@@ -1,14 +1,13 @@
 -- A plan under an allowance: what is said, how many stores are made, and what is left.
 -- Assumes nothing.
-use mathlib.Core.Path.{_≡_, refl, sym, ap, _∙_}
-use mathlib.Core.List.{List, [], _∷_, _++_}
-use Prim.Native.Nat.{ℕ, zero, suc, _+_, _-_, _≤_, _<_, min}
-use native.Mathlib.Nat.{min-le-left, min-le-right, min-eq-left, min-eq-right}
-use native.Mathlib.Omega.{arith}
+use mathlib.Core.Path.{_≡_, refl}
+use mathlib.Core.List.{List}
+use Prim.Native.Nat.{ℕ, _≤_, _<_}
+use native.Mathlib.Nat.{min-le-left, min-eq-left, min-eq-right}
 use borrow.Author.Tests.{le-leb, lt-leb}
 use lib.ListN.{length, take}
-use Rattle.stores.specs.Store.{Store, apply, exec}
-use Rattle.stores.specs.Plan.{Plan, Outcome, cut}
+use Rattle.stores.specs.Store.{apply, exec}
+use Rattle.stores.specs.Plan.{Plan, cut}
 use Rattle.stores.proofs.Stores.{exec-all, length-exec}
 
 module _ {R : Type 0} (cut-off : R) (n : ℕ) (p : Plan R) (a : List ℕ) where

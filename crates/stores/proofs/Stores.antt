@@ -5,15 +5,16 @@ use mathlib.Core.Bool.{Bool, true, false, _||_}
 use mathlib.Core.List.{List, [], _∷_, _++_}
 use mathlib.Core.Logic.{⊎-elim}
 use Prim.Native.Nat.{ℕ, zero, suc, _+_, _-_, _≤_, _<_}
-use native.Mathlib.Nat.{zero-sub, sub-zero, suc-sub-suc, not-suc-le-zero}
+use native.Mathlib.Nat.{zero-sub, sub-zero, suc-sub-suc, not-suc-le-zero, le-refl, le-step, eq-or-lt-of-le, le-of-suc-le-suc}
 use native.Mathlib.Omega.{arith}
-use borrow.Author.Tests.{eqb-true, eqb-false, ne-eqb}
+use borrow.Author.Tests.{eqb-true, eqb-false}
 use lib.Dec.{eqb}
-use lib.ListN.{length, getD, set, take, drop, length-set, length-append}
+use lib.ListN.{length, set, take, length-set, length-append}
 use lib.Seq.{take-all, take-nil, getD-set-same, getD-set-other}
 use Rattle.stores.specs.Lists.{pick, each, anyBelow}
-use Rattle.stores.specs.Store.{Store, word, store, apply, exec, Every, writes}
+use Rattle.stores.specs.Store.{Store, store, word, apply, exec, Every, writes}
 use Rattle.stores.specs.Executed.{Executed}
+use Rattle.stores.proofs.Lists.{each-suc}
 use Rattle.stores.proofs.Tests.{cases}
 
 pub apply-append : (ss tt : List Store) (a : List ℕ) → apply (ss ++ tt) a ≡ apply tt (apply ss a)
@@ -124,3 +125,22 @@ pub writes-each : (f : ℕ → List Store) (i n : ℕ) → writes (each f n) i �
 unfolding writes each anyBelow
 writes-each f i zero = refl
 writes-each f i (suc n) = writes-append (each f n) (f n) i ∙ ap (λ (r : Bool). r || writes (f n) i) (writes-each f i n)
+
+-- Of stores one by one at different addresses, each is read back.
+pub read-each : (at value : ℕ → ℕ) (n : ℕ) (a : List ℕ) → ((i j : ℕ) → i < j → j < n → at i ≡ at j → ⊥) → (k : ℕ) → k < n
+    → at k < length a → word (apply (each (λ t. store (at t) (value t) ∷ []) n) a) (at k) ≡ value k
+unfolding apply
+read-each at value zero a apart k h b = absurd (not-suc-le-zero h)
+read-each at value (suc n) a apart k h b =
+    let front : List Store = each (λ t. store (at t) (value t) ∷ []) n in
+    let kept : length (apply front a) ≡ length a = length-apply front a in
+    let step : apply (each (λ t. store (at t) (value t) ∷ []) (suc n)) a ≡ set (apply front a) (at n) (value n) =
+    ap (λ (l : List Store). apply l a) (each-suc (λ t. store (at t) (value t) ∷ []) n)
+    ∙ apply-append front (store (at n) (value n) ∷ []) a in
+    ap (λ (l : List ℕ). word l (at k)) step
+    ∙ ⊎-elim
+    (λ (e : k ≡ n). rw e (word-set-same (apply front a) (at n) (value n) (rw kept (rw e at b))))
+    (λ (l : k < n).
+    word-set-other (apply front a) (at n) (at k) (value n) (apart k n l (le-refl (suc n)))
+    ∙ read-each at value n a (λ i j p q. apart i j p (le-step q)) k l b)
+    (eq-or-lt-of-le (le-of-suc-le-suc h))

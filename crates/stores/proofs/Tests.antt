@@ -3,6 +3,8 @@
 use mathlib.Core.Path.{_≡_, refl, sym}
 use mathlib.Core.Bool.{Bool, true, false, _&&_, _||_, false≢true}
 use mathlib.Core.Logic.{_⊎_, inl, inr}
+use Prim.Native.Nat.{ℕ, _<_}
+use Rattle.stores.specs.Lists.{pick}
 
 -- A test is true or false, with the equation.
 pub cases : (b : Bool) → (b ≡ true) ⊎ (b ≡ false)
@@ -36,3 +38,8 @@ pub same-test : (p q : Bool) → (p ≡ true → q ≡ true) → (q ≡ true →
 same-test true q f b = sym (f refl)
 same-test false true f b = b refl
 same-test false false f b = refl
+
+-- What is chosen of two numbers below m is below m.
+pub pick-below : (t : Bool) (x y m : ℕ) → x < m → y < m → pick t x y < m
+pick-below true x y m p q = p
+pick-below false x y m p q = q
