@@ -19,9 +19,10 @@ use Rattle.rules.specs.Keys.{live, window}
 use Rattle.rules.specs.Slots.{hit}
 use Rattle.rules.proofs.Words.{Within, within-inside, key-within, value-within, entry-inside}
 use Rattle.rules.proofs.Keys.{live-nonzero, live-empty, window-lt}
+use Rattle.rules.proofs.Blocks.{bitsAt}
 use Rattle.history.specs.Map.{Map, updated}
 use Rattle.history.proofs.Holds.{Holds, hit-none, hit-window, hit-key, key-after-value, key-after-key, holds-new-value, holds-new-key, holds-removed, holds-other-value, holds-other-key}
-use Rattle.history.proofs.Invariant.{Inv, LiveAt, BlockChanged, bitsAt, baseAt}
+use Rattle.history.proofs.Invariant.{Inv, LiveAt, BlockChanged, baseAt}
 
 -- ---- The map with another value for one key
 
@@ -52,7 +53,7 @@ module _ {m : Map} {g d S : ℕ} {f : ℕ → ℕ} {a : List ℕ} (inv : Inv m g
       → ((j : ℕ) → j < 64 → LiveAt g f i (keyAt (set a at v) (baseAt d f i) j) → List·Memᴰ j (window (keyAt (set a at v) (baseAt d f i) j)))
       → BlockChanged m m′ g d S f i a (set a at v)
   store-in-block m′ at v w others holds windows =
-      let far : 2 ^ suc d ≤ at = within-inside d S (segmentOf (f i)) at (inv .directory .below i below) w .behind in
+      let far : 2 ^ suc d ≤ at = within-inside d S (segmentOf (f i)) at (inv .directory .entries .below i below) w .behind in
       record {
         length-same = length-set a at v;
         word-0-same = word-set-other a at 0 v (omega (arith, pow-pos (suc d)));
@@ -69,7 +70,7 @@ module _ {m : Map} {g d S : ℕ} {f : ℕ → ℕ} {a : List ℕ} (inv : Inv m g
   -- The words of the block's slots are in the array.
   inside : (at : ℕ) → Within d (segmentOf (f i)) at → at < length a
   inside at w =
-      let low : at < wordsFor d S = within-inside d S (segmentOf (f i)) at (inv .directory .below i below) w .below in
+      let low : at < wordsFor d S = within-inside d S (segmentOf (f i)) at (inv .directory .entries .below i below) w .below in
       let room : wordsFor d S ≤ length a = inv .shape .room in
       omega arith
 

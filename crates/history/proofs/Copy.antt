@@ -21,9 +21,10 @@ use Rattle.rules.proofs.Words.{entry-inside, Within, within-inside, key-inside,
 use Rattle.rules.proofs.Keys.{live-nonzero, live-whole, live-split, window-lt}
 use Rattle.history.specs.Map.{Map}
 use Rattle.history.proofs.Holds.{Holds, holds-same}
-use Rattle.history.proofs.Invariant.{Inv, Recovered, bitsAt, baseAt, SegmentSame, Framed, inv-framed}
+use Rattle.history.proofs.Invariant.{Inv, Recovered, baseAt, SegmentSame, Framed, inv-framed}
 use Rattle.history.proofs.Prefixes.{Kept, Always, always-whole, exec-elsewhere, apply-elsewhere}
 use Rattle.rules.proofs.Halving.{copying-within}
+use Rattle.rules.proofs.Blocks.{bitsAt}
 
 -- The address is of slot k of the segment at `base`.
 record InSlot (base k at : ℕ) : Type 0 where

@@ -12,33 +12,24 @@ use Rattle.rules.specs.Keys.{window}
 use Rattle.rules.specs.Split.{doubling}
 use Rattle.rules.proofs.Words.{entry-to, within-inside}
 use Rattle.rules.proofs.Keys.{bits-doubled}
+use Rattle.rules.proofs.Blocks.{doubledDirectory, doubled-blocks, bitsAt}
 use Rattle.history.specs.Map.{Map}
 use Rattle.history.proofs.Holds.{Holds}
-use Rattle.history.proofs.Invariant.{Shape, Directory, Inv, Recovered, LiveAt, bitsAt, baseAt, SegmentSame, Framed, inv-framed, recovered-lookups, shape-depth, shape-maxDepth, shape-segments, shape-valid, same-key, same-holds}
+use Rattle.history.proofs.Invariant.{Shape, Directory, Inv, Recovered, LiveAt, baseAt, SegmentSame, Framed, inv-framed, recovered-lookups, shape-depth, shape-maxDepth, shape-segments, shape-valid, same-key, same-holds}
 use Rattle.history.proofs.Prefixes.{Kept, Always, always-whole, always-append, always-one, exec-elsewhere}
 use Rattle.rules.proofs.Doubling.{Entry, doubledEntries, doubled-entries, doubling-parts, doubled-word-0, Doubled, after-doubling}
 
--- The directory of the next depth: each entry twice.
-abbrev pub doubledDirectory : (ℕ → ℕ) → ℕ → ℕ
-doubledDirectory f e = f (e / 2)
-
--- A block of the doubled directory comes from a block of the directory.
+-- No two blocks of the doubled directory share a segment.
 doubled-directory : {g S : ℕ} {f : ℕ → ℕ} → Directory g S f → Directory (suc g) S (doubledDirectory f)
 doubled-directory {g} {S} {f} dir =
     record {
-      depths = λ i h. let l : localDepth (f (i / 2)) ≤ g = shallow i h in omega arith;
-      below = λ i h. dir .below (i / 2) (omega arith);
-      blocks = λ i j h k e.
-          dir .blocks (i / 2) (j / 2) (omega arith) (omega arith)
-          (sym (bits-doubled g (localDepth (f (i / 2))) j (shallow i h)) ∙ e ∙ bits-doubled g (localDepth (f (i / 2))) i (shallow i h));
+      entries = doubled-blocks (dir .entries);
       apart = λ i j h k e.
-          bits-doubled g (localDepth (f (i / 2))) j (shallow i h)
+          let l : localDepth (f (i / 2)) ≤ g = dir .entries .depths (i / 2) (omega arith) in
+          bits-doubled g (localDepth (f (i / 2))) j l
           ∙ dir .apart (i / 2) (j / 2) (omega arith) (omega arith) e
-          ∙ sym (bits-doubled g (localDepth (f (i / 2))) i (shallow i h));
+          ∙ sym (bits-doubled g (localDepth (f (i / 2))) i l);
     }
-  where
-    shallow : (i : ℕ) → i < 2 ^ suc g → localDepth (f (i / 2)) ≤ g
-    shallow i h = dir .depths (i / 2) (omega arith)
 
 module _ {m : Map} {g d S : ℕ} {f : ℕ → ℕ} {a : List ℕ} (inv : Inv m g d S f a) (same : Recovered g f a) (room : g < d) where
   -- ---- The whole doubling
@@ -75,13 +66,13 @@ module _ {m : Map} {g d S : ℕ} {f : ℕ → ℕ} {a : List ℕ} (inv : Inv m g
 
   -- An index of the doubled directory has the block bits of the index that it comes from.
   same-bits : (i : ℕ) → i < 2 ^ suc g → bitsAt (suc g) (doubledDirectory f) i ≡ bitsAt g f (i / 2)
-  same-bits i h = bits-doubled g (localDepth (f (i / 2))) i (inv .directory .depths (i / 2) (omega arith))
+  same-bits i h = bits-doubled g (localDepth (f (i / 2))) i (inv .directory .entries .depths (i / 2) (omega arith))
 
   doubled-holds : (i : ℕ) → i < 2 ^ suc g → (key : ℕ) → LiveAt (suc g) (doubledDirectory f) i key
       → Holds (m key) (apply (doubling a) a) (baseAt d (doubledDirectory f) i) key
   doubled-holds i h key t =
       same-holds d (segmentOf (f (i / 2))) a (apply (doubling a) a)
-      (segments-same (segmentOf (f (i / 2))) (inv .directory .below (i / 2) (omega arith))) (m key) key
+      (segments-same (segmentOf (f (i / 2))) (inv .directory .entries .below (i / 2) (omega arith))) (m key) key
       (inv .holds (i / 2) (omega arith) key (rw (same-bits i h) at t))
 
   doubled-in-window : (i : ℕ) → i < 2 ^ suc g → (j : ℕ) → j < 64
@@ -90,7 +81,7 @@ module _ {m : Map} {g d S : ℕ} {f : ℕ → ℕ} {a : List ℕ} (inv : Inv m g
   doubled-in-window i h j l t =
       let e =
       same-key d (segmentOf (f (i / 2))) a (apply (doubling a) a)
-      (segments-same (segmentOf (f (i / 2))) (inv .directory .below (i / 2) (omega arith))) j l in
+      (segments-same (segmentOf (f (i / 2))) (inv .directory .entries .below (i / 2) (omega arith))) j l in
       rw e (inv .in-window (i / 2) (omega arith) j l (rw (same-bits i h, e) at t))
 
   pub doubled : Inv m (suc g) d S (doubledDirectory f) (apply (doubling a) a)
@@ -118,7 +109,7 @@ module _ {m : Map} {g d S : ℕ} {f : ℕ → ℕ} {a : List ℕ} (inv : Inv m g
         length-same = length-exec (doubledEntries a) n a;
         word-0-same = entries-elsewhere n 0 (λ e. omega (arith, e .from, pow-pos (suc g)));
         entries-same = λ i h. entries-elsewhere n (entryAddress g i) (λ e. omega (arith, e .from, entry-to g i h));
-        named-same = λ i h. segment (segmentOf (f i)) (inv .directory .below i h);
+        named-same = λ i h. segment (segmentOf (f i)) (inv .directory .entries .below i h);
         standing-same = λ i h. segment (segmentOf (entryAt a g i)) (inv .lookups-agree i h .segment-fits);
       }
     where

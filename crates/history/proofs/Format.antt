@@ -142,9 +142,12 @@ module _ (before : List ℕ) (D S : ℕ) (valid : validShape D S ≡ true) (room
   directory : Directory 0 S whole-directory
   directory =
       record {
-        depths = λ i h. rw zero-depth (omega arith);
-        below = λ i h. rw zero-segment (bounds .2);
-        blocks = λ i j h k e. refl;
+        entries =
+            record {
+              depths = λ i h. rw zero-depth (omega arith);
+              below = λ i h. rw zero-segment (bounds .2);
+              blocks = λ i j h k e. refl;
+            };
         apart = λ i j h k e. rw (one-index i j h k);
       }
 

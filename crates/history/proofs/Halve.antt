@@ -7,10 +7,10 @@ use Rattle.stores.specs.Store.{Store, apply}
 use Rattle.stores.proofs.Stores.{apply-append}
 use Rattle.rules.specs.Layout.{segmentOf, localDepth}
 use Rattle.rules.specs.Split.{halvingOf}
+use Rattle.rules.proofs.Blocks.{halvedDirectory}
 use Rattle.history.specs.Map.{Map}
 use Rattle.history.proofs.Invariant.{Inv, Recovered, shape-depth, shape-maxDepth}
 use Rattle.history.proofs.Prefixes.{Kept, Always, always-append}
-use Rattle.history.proofs.Halved.{halvedDirectory}
 use Rattle.history.proofs.Copy.{copied, copies-kept, copies}
 use Rattle.history.proofs.Update.{updates, updates-kept, updates-inv, updates-recovered}
 

@@ -18,6 +18,7 @@ use Rattle.rules.specs.Layout.{depth, maxDepth, segments, header, wordsFor, ent
 use Rattle.rules.specs.Keys.{index, blockBits, blockStart, live, window}
 use Rattle.rules.proofs.Words.{ValidHeader, header-depth, header-maxDepth, header-segments, header-mark, Within, key-within, value-within}
 use Rattle.rules.proofs.Keys.{index-lt, index-shift, live-nonzero, live-index, live-true, window-lt}
+use Rattle.rules.proofs.Blocks.{bitsAt, SameBlock, Blocks}
 use Rattle.history.specs.Map.{Map}
 use Rattle.history.proofs.Holds.{Holds, holds-same}
 
@@ -33,10 +34,6 @@ pub record Shape (g d S : ℕ) (a : List ℕ) : Type 0 where
   pub few-segments : S ≤ 2 ^ d
   pub room : wordsFor d S ≤ length a
 
--- The bits of index i's block in the directory f, which all keys live in that block have first.
-abbrev pub bitsAt : (g : ℕ) → (ℕ → ℕ) → (i : ℕ) → ℕ
-bitsAt g f i = blockBits g (localDepth (f i)) i
-
 -- The address of the segment that index i's entry in f names.
 abbrev pub baseAt : (d : ℕ) → (ℕ → ℕ) → (i : ℕ) → ℕ
 baseAt d f i = segmentAddress d (segmentOf (f i))
@@ -45,15 +42,9 @@ baseAt d f i = segmentAddress d (segmentOf (f i))
 abbrev pub LiveAt : (g : ℕ) → (ℕ → ℕ) → (i key : ℕ) → Type 0
 LiveAt g f i key = live (localDepth (f i)) (bitsAt g f i) key ≡ true
 
--- Index j is in index i's block.
-abbrev pub SameBlock : (g : ℕ) → (ℕ → ℕ) → (i j : ℕ) → Type 0
-SameBlock g f i j = blockBits g (localDepth (f i)) j ≡ bitsAt g f i
-
--- f is a directory of depth g: its entries are in range, one entry stands in a whole block, and no two blocks share a segment.
+-- f is a consistent directory of depth g in which no two blocks share a segment.
 pub record Directory (g S : ℕ) (f : ℕ → ℕ) : Type 0 where
-  pub depths : (i : ℕ) → i < 2 ^ g → localDepth (f i) ≤ g
-  pub below : (i : ℕ) → i < 2 ^ g → segmentOf (f i) < S
-  pub blocks : (i j : ℕ) → i < 2 ^ g → j < 2 ^ g → SameBlock g f i j → f j ≡ f i
+  pub entries : Blocks g S f
   pub apart : (i j : ℕ) → i < 2 ^ g → j < 2 ^ g → segmentOf (f j) ≡ segmentOf (f i) → SameBlock g f i j
 
 -- A lookup agrees: entry i, as it stands, is in range, and its segment holds what the map has for each key of this index.
@@ -142,8 +133,8 @@ live-own g key nonzero = live-true g (index key g) key nonzero refl
 -- A key that is live in index i's block has its own index in that block.
 pub live-block : {g S : ℕ} {f : ℕ → ℕ} → Directory g S f → (i key : ℕ) → i < 2 ^ g → LiveAt g f i key → f (index key g) ≡ f i
 live-block {g} {S} {f} dir i key h t =
-    dir .blocks i (index key g) h (index-lt key g)
-    (index-shift key g (localDepth (f i)) (dir .depths i h) ∙ live-index (localDepth (f i)) (bitsAt g f i) key t)
+    dir .entries .blocks i (index key g) h (index-lt key g)
+    (index-shift key g (localDepth (f i)) (dir .entries .depths i h) ∙ live-index (localDepth (f i)) (bitsAt g f i) key t)
 
 -- Where all entries are f's, lookups agree with the blocks.
 pub recovered-lookups : {m : Map} {g d S : ℕ} {f : ℕ → ℕ} {a : List ℕ} → Directory g S f
@@ -152,9 +143,9 @@ pub recovered-lookups : {m : Map} {g d S : ℕ} {f : ℕ → ℕ} {a : List ℕ}
     → (i : ℕ) → i < 2 ^ g → LookupAgrees m g d S a i
 recovered-lookups {m} {g} {d} {S} {f} {a} dir holds same i h =
     record {
-      depth-fits = rw (same i h) (dir .depths i h);
-      segment-fits = rw (same i h) (dir .below i h);
-      found = λ key t. rw (same i h) (holds i h key (live-above g (localDepth (f i)) i key (dir .depths i h) t));
+      depth-fits = rw (same i h) (dir .entries .depths i h);
+      segment-fits = rw (same i h) (dir .entries .below i h);
+      found = λ key t. rw (same i h) (holds i h key (live-above g (localDepth (f i)) i key (dir .entries .depths i h) t));
     }
 
 -- ---- What a change elsewhere leaves
@@ -231,7 +222,7 @@ module _ {m m′ : Map} {g d S : ℕ} {f : ℕ → ℕ} {a : List ℕ} (i : ℕ)
 
   -- A block with the same segment is index i's block.
   same-entry : (k : ℕ) → k < 2 ^ g → segmentOf (f k) ≡ segmentOf (f i) → f k ≡ f i
-  same-entry k h e = inv .directory .blocks i k below h (inv .directory .apart i k below h e)
+  same-entry k h e = inv .directory .entries .blocks i k below h (inv .directory .apart i k below h e)
 
   same-bits : (k : ℕ) → k < 2 ^ g → segmentOf (f k) ≡ segmentOf (f i) → bitsAt g f k ≡ bitsAt g f i
   same-bits k h e = ap (λ (x : ℕ). blockBits g (localDepth x) k) (same-entry k h e) ∙ inv .directory .apart i k below h e
@@ -245,7 +236,7 @@ module _ {m m′ : Map} {g d S : ℕ} {f : ℕ → ℕ} {a : List ℕ} (i : ℕ)
       (λ (e : eqb (segmentOf (f k)) (segmentOf (f i)) ≡ false).
       let u = eqb-false (segmentOf (f k)) (segmentOf (f i)) e in
       rw (ch .map-same key (not-live-here k h u key t))
-      (same-holds d (segmentOf (f k)) a b (ch .others-same (segmentOf (f k)) (inv .directory .below k h) u) (m key) key
+      (same-holds d (segmentOf (f k)) a b (ch .others-same (segmentOf (f k)) (inv .directory .entries .below k h) u) (m key) key
       (inv .holds k h key t)))
       (cases (eqb (segmentOf (f k)) (segmentOf (f i))))
 
@@ -259,7 +250,7 @@ module _ {m m′ : Map} {g d S : ℕ} {f : ℕ → ℕ} {a : List ℕ} (i : ℕ)
       (λ (e : eqb (segmentOf (f k)) (segmentOf (f i)) ≡ false).
       let u = eqb-false (segmentOf (f k)) (segmentOf (f i)) e in
       let w =
-      same-key d (segmentOf (f k)) a b (ch .others-same (segmentOf (f k)) (inv .directory .below k h) u) j l
+      same-key d (segmentOf (f k)) a b (ch .others-same (segmentOf (f k)) (inv .directory .entries .below k h) u) j l
       in
       rw w (inv .in-window k h j l (rw w at t)))
       (cases (eqb (segmentOf (f k)) (segmentOf (f i))))

@@ -18,10 +18,11 @@ use Rattle.rules.specs.Layout.{localDepth, keyAt, valueAt}
 use Rattle.rules.specs.Keys.{index, width, blockBits, blockStart, live}
 use Rattle.rules.specs.Listing.{Record, liveRecord, blockRecords, records}
 use Rattle.rules.proofs.Keys.{index-lt, index-shift, width-pos, blockStart-bits, blockStart-le, block-same, blockStart-aligned, blockStart-self, live-index, live-true, window-lt}
+use Rattle.rules.proofs.Blocks.{bitsAt}
 use Rattle.history.specs.Map.{Map}
 use Rattle.history.specs.Listing.{occurrences, ListsMap}
 use Rattle.history.proofs.Holds.{HoldsAt, holds-value}
-use Rattle.history.proofs.Invariant.{Inv, Recovered, LiveAt, bitsAt, baseAt, shape-depth, shape-maxDepth, live-block}
+use Rattle.history.proofs.Invariant.{Inv, Recovered, LiveAt, baseAt, shape-depth, shape-maxDepth, live-block}
 use Rattle.history.proofs.Recover.{inv-leader}
 
 -- ---- How many records have a key
@@ -184,7 +185,7 @@ module _ {m : Map} {g d S : ℕ} {f : ℕ → ℕ} {a : List ℕ} (inv : Inv m g
         block-same g (localDepth (f (index key g))) (index key g) start (le-refl start) (omega arith)
 
     start-entry : f start ≡ f (index key g)
-    start-entry = inv .directory .blocks (index key g) start (index-lt key g) start-below start-bits
+    start-entry = inv .directory .entries .blocks (index key g) start (index-lt key g) start-below start-bits
 
     start-first : first start ≡ start
     start-first =
@@ -195,14 +196,14 @@ module _ {m : Map} {g d S : ℕ} {f : ℕ → ℕ} {a : List ℕ} (inv : Inv m g
     start-live =
         rw (ap localDepth start-entry)
         (live-true (localDepth (f (index key g))) (blockBits g (localDepth (f (index key g))) start) key nonzero
-        (sym (index-shift key g (localDepth (f (index key g))) (inv .directory .depths (index key g) (index-lt key g))) ∙ sym start-bits))
+        (sym (index-shift key g (localDepth (f (index key g))) (inv .directory .entries .depths (index key g) (index-lt key g))) ∙ sym start-bits))
 
     -- A block where the key is live has the same first index.
     live-start : (i : ℕ) → i < 2 ^ g → LiveAt g f i key → first i ≡ start
     live-start i h t =
         let entry : f (index key g) ≡ f i = live-block (inv .directory) i key h t in
         let bits : blockBits g (localDepth (f i)) (index key g) ≡ blockBits g (localDepth (f i)) i =
-        index-shift key g (localDepth (f i)) (inv .directory .depths i h) ∙ live-index (localDepth (f i)) (bitsAt g f i) key t
+        index-shift key g (localDepth (f i)) (inv .directory .entries .depths i h) ∙ live-index (localDepth (f i)) (bitsAt g f i) key t
         in
         blockStart-bits g (localDepth (f i)) i
         ∙ ap (λ (b : ℕ). width g (localDepth (f i)) * b) (sym bits)

@@ -36,13 +36,13 @@ module _ {m : Map} {g d S : ℕ} {f : ℕ → ℕ} {a : List ℕ} (inv : Inv m g
 
     lookup-mended : (i : ℕ) → i < 2 ^ g → entryAt b g i ≡ f i → LookupAgrees m g d S b i
     lookup-mended i h e =
-        let low : localDepth (f i) ≤ g = inv .directory .depths i h in
+        let low : localDepth (f i) ≤ g = inv .directory .entries .depths i h in
         record {
           depth-fits = rw e low;
-          segment-fits = rw e (inv .directory .below i h);
+          segment-fits = rw e (inv .directory .entries .below i h);
           found = λ key t.
               rw e
-              (same-holds d (segmentOf (f i)) a b (segment-same (segmentOf (f i)) (inv .directory .below i h)) (m key) key
+              (same-holds d (segmentOf (f i)) a b (segment-same (segmentOf (f i)) (inv .directory .entries .below i h)) (m key) key
               (inv .holds i h key (live-above g (localDepth (f i)) i key low t)));
         }
 
@@ -65,9 +65,9 @@ module _ {m : Map} {g d S : ℕ} {f : ℕ → ℕ} {a : List ℕ} (inv : Inv m g
           directory = inv .directory;
           leaders-agree = λ i h e. ⊎-elim (λ q. q ∙ inv .leaders-agree i h e) (λ q. q) (p .entries i h);
           holds = λ i h key t.
-              same-holds d (segmentOf (f i)) a b (segment-same (segmentOf (f i)) (inv .directory .below i h)) (m key) key (inv .holds i h key t);
+              same-holds d (segmentOf (f i)) a b (segment-same (segmentOf (f i)) (inv .directory .entries .below i h)) (m key) key (inv .holds i h key t);
           in-window = λ i h j k t.
-              let e = same-key d (segmentOf (f i)) a b (segment-same (segmentOf (f i)) (inv .directory .below i h)) j k in
+              let e = same-key d (segmentOf (f i)) a b (segment-same (segmentOf (f i)) (inv .directory .entries .below i h)) j k in
               rw e (inv .in-window i h j k (rw e at t));
           lookups-agree = λ i h. ⊎-elim (lookup-standing i h) (lookup-mended i h) (p .entries i h);
         }

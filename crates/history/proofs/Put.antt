@@ -27,13 +27,14 @@ use Rattle.rules.proofs.Keys.{index-lt, window-lt}
 use Rattle.rules.proofs.Put.{choice-found, choice-into, keyHit, keyUsable, renewed, inserted, Cases, put-induction}
 use Rattle.history.specs.Map.{Map, puts, fed, updated}
 use Rattle.history.proofs.Holds.{key-after-value, hit-after-value}
-use Rattle.history.proofs.Invariant.{Inv, Recovered, LiveAt, bitsAt, baseAt, live-above, live-own, block-changed, block-recovered, BlockChanged, shape-depth}
+use Rattle.history.proofs.Invariant.{Inv, Recovered, LiveAt, baseAt, live-above, live-own, block-changed, block-recovered, BlockChanged, shape-depth}
 use Rattle.history.proofs.Recover.{inv-put-tests, inv-key-entry, inv-key-segment}
 use Rattle.history.proofs.Prefixes.{Kept, Whole, whole-kept}
 use Rattle.history.proofs.Plans.{PlanKept, refusal-kept, plan-after}
 use Rattle.history.proofs.Changes.{new-value, value-unseen, new-key}
 use Rattle.history.proofs.Split.{split-keeps}
 use Rattle.rules.proofs.Halving.{keyBits}
+use Rattle.rules.proofs.Blocks.{bitsAt}
 
 module _ (key value : ℕ) where
   -- ---- The key's own block
@@ -53,7 +54,7 @@ module _ (key value : ℕ) where
 
     pub own-live : (key ≡ 0 → ⊥) → LiveAt g f here key
     own-live nonzero =
-        live-above g (localDepth (f here)) here key (inv .directory .depths here (index-lt key g)) (live-own g key nonzero)
+        live-above g (localDepth (f here)) here key (inv .directory .entries .depths here (index-lt key g)) (live-own g key nonzero)
 
     pub own-hit : (r : Option ℕ) → keyHit a key ≡ r → hit a (baseAt d f here) key ≡ r
     own-hit r e = rw own-segment at e
@@ -111,7 +112,7 @@ module _ (key value : ℕ) where
       in-array : valueAddress base j < length a
       in-array =
           let inside : valueAddress base j < wordsFor d S =
-          value-inside d S (segmentOf (f here)) j (inv .directory .below here (index-lt key g)) (window-lt key j window-slot) .below
+          value-inside d S (segmentOf (f here)) j (inv .directory .entries .below here (index-lt key g)) (window-lt key j window-slot) .below
           in
           let fits : wordsFor d S ≤ length a = inv .shape .room in
           omega arith

@@ -20,13 +20,13 @@ use Rattle.rules.specs.Get.{keyEntry}
 use Rattle.rules.specs.Split.{doubling, halving, doublingFor, splitting}
 use Rattle.rules.proofs.Keys.{index-lt, index-half}
 use Rattle.rules.proofs.Put.{free-below}
+use Rattle.rules.proofs.Blocks.{halvedDirectory}
 use Rattle.history.specs.Map.{Map}
 use Rattle.history.proofs.Invariant.{Inv, Recovered, shape-depth, shape-maxDepth, shape-segments}
 use Rattle.history.proofs.Recover.{inv-key-entry}
 use Rattle.history.proofs.Prefixes.{Kept, Whole, Always, always-append}
 use Rattle.history.proofs.Double.{doubling-kept, doubled, doubled-recovered}
 use Rattle.history.proofs.Halve.{halving-kept, halved, halved-recovered}
-use Rattle.history.proofs.Halved.{halvedDirectory}
 
 -- The stores ss keep the map after every number of them, and whole leave a store that needs no recovery.
 pub record SplitKept (m : Map) (d S : ℕ) (ss : List Store) (a : List ℕ) : Type 0 where
@@ -92,7 +92,7 @@ module _ {m : Map} {g d S : ℕ} {f : ℕ → ℕ} {a : List ℕ} (inv : Inv m g
 
   without-doubling : (localDepth (f (index key g)) ≡ g → ⊥) → SplitKept m d S (halving a key n) a
   without-doubling unlike =
-      let low : localDepth (f (index key g)) ≤ g = inv .directory .depths (index key g) (index-lt key g) in
+      let low : localDepth (f (index key g)) ≤ g = inv .directory .entries .depths (index key g) (index-lt key g) in
       halving-split inv same key n (omega arith) new-below unnamed
 
   pub split-keeps : SplitKept m d S (splitting a key n) a

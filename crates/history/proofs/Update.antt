@@ -22,10 +22,11 @@ use Rattle.rules.proofs.Keys.{width-half, blockStart-bits, blockStart-le, in-bl
 use Rattle.rules.proofs.Bound.{length-updating}
 use Rattle.history.specs.Map.{Map}
 use Rattle.history.proofs.Holds.{Holds}
-use Rattle.history.proofs.Invariant.{Directory, Inv, Recovered, LiveAt, SameBlock, bitsAt, baseAt, LookupAgrees, SegmentSame, segments-fit, shape-kept, same-key, same-holds, live-above}
+use Rattle.history.proofs.Invariant.{Directory, Inv, Recovered, LiveAt, baseAt, LookupAgrees, SegmentSame, segments-fit, shape-kept, same-key, same-holds, live-above}
 use Rattle.history.proofs.Prefixes.{Kept, Always, exec-elsewhere, single-made, single-not-made}
 use Rattle.rules.proofs.Halving.{BlockEntry, updating-block}
-use Rattle.history.proofs.Halved.{Place, place, InBlock, halvedDirectory, halved-directory}
+use Rattle.rules.proofs.Blocks.{bitsAt, SameBlock, halvedDirectory, InBlock, Place}
+use Rattle.history.proofs.Halved.{at-place, halved-directory}
 use Rattle.history.proofs.Copy.{Copied}
 
 -- The stores of step 4 for index i's block.
@@ -147,7 +148,7 @@ module _ {m : Map} {g d S : ℕ} {f : ℕ → ℕ} (i : ℕ) (below : i < 2 ^ g)
   fits = omega (arith, segments-fit (cp .inv .shape))
 
   position : (j : ℕ) → Place g f i n j
-  position = place (cp .inv .directory) fits i below room n new unnamed
+  position = at-place (cp .inv .directory) fits i below room n new unnamed
 
   after : Directory g S (halvedDirectory g f i n)
   after = halved-directory (cp .inv .directory) fits i below room n new unnamed
@@ -159,13 +160,13 @@ module _ {m : Map} {g d S : ℕ} {f : ℕ → ℕ} (i : ℕ) (below : i < 2 ^ g)
     -- The blocks of the directory f still hold what the map has.
     old-holds : (k : ℕ) → k < 2 ^ g → (key : ℕ) → LiveAt g f k key → Holds (m key) b (baseAt d f k) key
     old-holds k h key t =
-        same-holds d (segmentOf (f k)) c b (segment-same (segmentOf (f k)) (cp .inv .directory .below k h)) (m key) key
+        same-holds d (segmentOf (f k)) c b (segment-same (segmentOf (f k)) (cp .inv .directory .entries .below k h)) (m key) key
         (cp .inv .holds k h key t)
 
     old-in-window : (k : ℕ) → k < 2 ^ g → (j : ℕ) → j < 64 → LiveAt g f k (keyAt b (baseAt d f k) j)
         → List·Memᴰ j (window (keyAt b (baseAt d f k) j))
     old-in-window k h j l t =
-        let e = same-key d (segmentOf (f k)) c b (segment-same (segmentOf (f k)) (cp .inv .directory .below k h)) j l in
+        let e = same-key d (segmentOf (f k)) c b (segment-same (segmentOf (f k)) (cp .inv .directory .entries .below k h)) j l in
         rw e (cp .inv .in-window k h j l (rw e at t))
 
     -- And so does each half.
@@ -210,9 +211,9 @@ module _ {m : Map} {g d S : ℕ} {f : ℕ → ℕ} (i : ℕ) (below : i < 2 ^ g)
         → (k : ℕ) → k < 2 ^ g → entryAt b g k ≡ dirNow k → LookupAgrees m g d S b k
     lookup dirNow dir holds k h e =
         record {
-          depth-fits = rw e (dir .depths k h);
-          segment-fits = rw e (dir .below k h);
-          found = λ key t. rw e (holds k h key (live-above g (localDepth (dirNow k)) k key (dir .depths k h) t));
+          depth-fits = rw e (dir .entries .depths k h);
+          segment-fits = rw e (dir .entries .below k h);
+          found = λ key t. rw e (holds k h key (live-above g (localDepth (dirNow k)) k key (dir .entries .depths k h) t));
         }
 
     lookups : (k : ℕ) → k < 2 ^ g → LookupAgrees m g d S b k
@@ -267,7 +268,7 @@ module _ {m : Map} {g d S : ℕ} {f : ℕ → ℕ} (i : ℕ) (below : i < 2 ^ g)
   updates-outside t at other =
       updates-elsewhere g f i n room c t at
       (λ q.
-      let end = block-end g (localDepth (f i)) i (cp .inv .directory .depths i below) below in
+      let end = block-end g (localDepth (f i)) i (cp .inv .directory .entries .depths i below) below in
       other (q .number) (omega (arith, q .to)) (q .address))
 
   updated : (t : ℕ) → Updated g d f i n c (exec (updates g f i n) t c)
@@ -283,7 +284,7 @@ module _ {m : Map} {g d S : ℕ} {f : ℕ → ℕ} (i : ℕ) (below : i < 2 ^ g)
   leader-kept : (t k : ℕ) → t < width g (localDepth (f i)) → k < 2 ^ g → Place g f i n k → blockStart g (localDepth (f k)) k ≡ k
       → entryAt (exec (updates g f i n) t c) g k ≡ f k
   leader-kept t k l h (inl p) e =
-      let like : f k ≡ f i = cp .inv .directory .blocks i k below h (p .block-bits) in
+      let like : f k ≡ f i = cp .inv .directory .entries .blocks i k below h (p .block-bits) in
       let first : blockStart g (localDepth (f i)) k ≡ k = rw like at e in
       let start = same-start g (localDepth (f i)) i k (p .block-bits) in
       entry-not-made g f i n room c t k (p .block-bits) (omega arith) ∙ cp .recovered k h

@@ -6,6 +6,7 @@ pub mod Outcomes
 pub mod Words
 pub mod Keys
 pub mod Scan
+pub mod Blocks
 pub mod Doubling
 pub mod Halving
 pub mod Split
