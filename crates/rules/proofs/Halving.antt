@@ -13,7 +13,7 @@ use lib.ListN.{length}
 use lib.Pow.{pow-mono, pow-pos}
 use Rattle.stores.specs.Lists.{pick}
 use Rattle.stores.specs.Store.{Store, word, store, apply, Every}
-use Rattle.stores.proofs.Tests.{cases}
+use Rattle.stores.proofs.Tests.{cases, pick-not}
 use Rattle.stores.proofs.Lists.{every-append, every-each, every-map, every-pick}
 use Rattle.stores.proofs.Stores.{apply-append, length-apply, word-elsewhere, read-each}
 use Rattle.rules.specs.Layout.{depthIn, depth, maxDepth, segments, wordsFor, entryAddress, entryAt, entry, segmentOf, localDepth, segmentAddress, keyAddress, valueAddress}
@@ -78,10 +78,6 @@ updating-read a g L start s n i l lo hi b =
     (cases (ltb i (start + width g (suc L))))
 
 -- ---- Steps 3 and 4 for the key's block
-
-pick-not : {A : Type 0} (t : Bool) (x y : A) → pick (not t) x y ≡ pick t y x
-pick-not true x y = refl
-pick-not false x y = refl
 
 -- Where the half of the key's block begins that holds the key's index.
 half-start : (key g L : ℕ) → L < g

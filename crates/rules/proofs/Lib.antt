@@ -11,6 +11,7 @@ pub mod Doubling
 pub mod Halving
 pub mod Split
 pub mod Put
+pub mod Refusals
 pub mod Bound
 pub mod Full
 pub mod Range

@@ -1,7 +1,7 @@
 -- Tests that are true or false: which parts of them hold, and how they are split by cases.
 -- Assumes nothing.
 use mathlib.Core.Path.{_≡_, refl, sym}
-use mathlib.Core.Bool.{Bool, true, false, _&&_, _||_, false≢true}
+use mathlib.Core.Bool.{Bool, true, false, not, _&&_, _||_, false≢true}
 use mathlib.Core.Logic.{_⊎_, inl, inr}
 use Prim.Native.Nat.{ℕ, _<_}
 use Rattle.stores.specs.Lists.{pick}
@@ -43,3 +43,7 @@ same-test false false f b = refl
 pub pick-below : (t : Bool) (x y m : ℕ) → x < m → y < m → pick t x y < m
 pick-below true x y m p q = p
 pick-below false x y m p q = q
+
+pub pick-not : {A : Type 0} (t : Bool) (x y : A) → pick (not t) x y ≡ pick t y x
+pick-not true x y = refl
+pick-not false x y = refl
