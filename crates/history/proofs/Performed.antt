@@ -36,9 +36,9 @@ performed-agrees p good (l ∷ ls) linked v =
 
 pub performed-history-rule : PerformedHistoryRule
 unfolding step
-performed-history-rule before D S allowance l formatted says links linked v =
-    performed-agrees (start (l .after))
-    (good-start (l .after)
+performed-history-rule D S allowance before list answer first listAfter formatted says links linked v =
+    performed-agrees (start first)
+    (good-start first
     (record {
       before = before;
       D = D;

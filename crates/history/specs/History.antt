@@ -91,9 +91,12 @@ Linked a (l ∷ ls) = Performed (l .call) a (l .list) (l .answer) (l .after) (l 
 
 -- A get of the key, performed on the array a with some list array, has said `said`.
 pub record GetPerformed (a : List ℕ) (key : ℕ) (said : Said) : Type 0 where
-  pub link : Link
-  pub performed : Performed (Get key) a (link .list) (link .answer) (link .after) (link .listAfter)
-  pub said-so : said ≡ saidBy (link .answer .reply)
+  pub list : List ℕ
+  pub answer : Answer
+  pub after : List ℕ
+  pub listAfter : List ℕ
+  pub performed : Performed (Get key) a list answer after listAfter
+  pub said-so : said ≡ saidBy (answer .reply)
 
 -- The index, as performed calls have answered and left it.
 abbrev pub performed : Machine
@@ -109,9 +112,9 @@ performed =
 -- is a valid run agrees with the map.
 abbrev pub PerformedHistoryRule : Type 0
 PerformedHistoryRule =
-    (before : List ℕ) (D S allowance : ℕ) (l : Link)
-    → Performed (Format D S allowance) before (l .list) (l .answer) (l .after) (l .listAfter)
-    → saidBy (l .answer .reply) ≡ done []
-    → (links : List Link) → Linked (l .after) links
-    → validRun performed (start (l .after)) links ≡ true
-    → AgreesWithMap performed (start (l .after)) links
+    (D S allowance : ℕ) (before list : List ℕ) (answer : Answer) (first listAfter : List ℕ)
+    → Performed (Format D S allowance) before list answer first listAfter
+    → saidBy (answer .reply) ≡ done []
+    → (links : List Link) → Linked first links
+    → validRun performed (start first) links ≡ true
+    → AgreesWithMap performed (start first) links
