@@ -2,18 +2,20 @@
 -- This file alone opens the definitions of `specs/Keys.antt`.
 -- Assumes nothing.
 use mathlib.Core.Path.{_≡_, refl, sym, ap, _∙_}
-use mathlib.Core.Bool.{true, false, not, _&&_, and-false}
+use mathlib.Core.Bool.{Bool, true, false, not, _&&_, and-false}
 use mathlib.Core.List.{[], _∷_, List·Memᴰ, List·Memᴰ·head, List·Memᴰ·eq-of-singleton}
 use mathlib.Core.Logic.{⊎-elim}
 use Prim.Native.Nat.{ℕ, zero, suc, _+_, _*_, _-_, _/_, _%_, _^_, _≤_, _<_}
-use native.Mathlib.Nat.{eq-or-lt-of-le, le-of-suc-le-suc, pow-succ', sub-self, sub-zero, mul-comm, mul-suc, add-mul, mod-lt, div-one, div-add-mod, div-div-eq-div-mul, div-lt-iff-lt-mul, div-eq-of-lt-le, mul-div-le, mul-mod-right, mul-le-mul-left}
+use native.Mathlib.Nat.{eq-or-lt-of-le, le-of-suc-le-suc, pow-succ', sub-self, sub-zero, mul-comm, mul-suc, add-mul, mod-lt, div-one, div-add-mod, div-div-eq-div-mul, div-lt-iff-lt-mul, div-eq-of-lt-le, mul-div-le, mul-mod-right, mul-le-mul-left, add-suc, pow-suc, mul-left-comm, mul-div-right}
+use native.Mathlib.Numerals.{one-add}
 use native.Mathlib.Omega.{arith}
 use borrow.Author.Tests.{eqb-true, eqb-false, not-true, eq-eqb, ne-eqb}
 use lib.Dec.{eqb}
-use lib.Pow.{pow-pos, pow-add}
+use lib.Pow.{pow-pos, pow-add, shr-shr, mod-pow-add, mod-mod-pow, field, pow-mono}
+use Rattle.stores.specs.Lists.{each}
 use Rattle.stores.proofs.Tests.{and-left, and-right, and-true, same-test}
 use Rattle.stores.proofs.Lists.{mem-each, each-mem}
-use Rattle.rules.specs.Keys.{bit, index, width, blockBits, blockStart, live, windowBucket, slotsOf, window}
+use Rattle.rules.specs.Keys.{bucket, bit, index, width, blockBits, blockStart, live, windowBucket, slotsOf, window}
 
 -- ---- A key's bits and its index
 
@@ -224,3 +226,113 @@ unfolding window slotsOf
 window-slot key b j h k =
     each-mem (4 * windowBucket key b + j) (λ b. slotsOf (windowBucket key b)) 4 b h
     (each-mem (4 * windowBucket key b + j) (λ i. (4 * windowBucket key b + i) ∷ []) 4 j k (List·Memᴰ·head refl))
+
+-- ---- For the code
+
+pub bucket-mod : (key : ℕ) → bucket key ≡ key % 16
+unfolding bucket
+bucket-mod key = refl
+
+pub windowBucket-mod : (key b : ℕ) → windowBucket key b ≡ (bucket key + b) % 16
+unfolding windowBucket
+windowBucket-mod key b = refl
+
+pub slots-each : (b : ℕ) → slotsOf b ≡ each (λ j. (4 * b + j) ∷ []) 4
+unfolding slotsOf
+slots-each b = refl
+
+pub window-each : (key : ℕ) → window key ≡ each (λ b. slotsOf (windowBucket key b)) 4
+unfolding window
+window-each key = refl
+
+-- Directory bit number i is bit number i of key / 16.
+pub bit-shift : (key i : ℕ) → bit key i ≡ key / 16 / 2 ^ i % 2
+unfolding bit
+bit-shift key i = ap (λ (n : ℕ). n % 2) (sym (shr-shr key 4 i))
+
+-- The low bits of key / 16 give the index: the first L are one step from the first L + 1.
+low-bits : (n L : ℕ) → n % 2 ^ suc L ≡ n / 2 ^ L % 2 * 2 ^ L + n % 2 ^ L
+low-bits n L = ap (λ (k : ℕ). n % 2 ^ k) (sym (one-add L)) ∙ mod-pow-add n 1 L
+
+low-fewer : (n L : ℕ) → n % 2 ^ suc L % 2 ^ L ≡ n % 2 ^ L
+low-fewer n L = ap (λ (k : ℕ). n % 2 ^ k % 2 ^ L) (sym (one-add L)) ∙ mod-mod-pow n 1 L
+
+low-last : (n L : ℕ) → n % 2 ^ suc L / 2 ^ L ≡ n / 2 ^ L % 2
+low-last n L = ap (λ (k : ℕ). n % 2 ^ k / 2 ^ L) (sym (one-add L)) ∙ field n 1 L
+
+-- Two keys have the same index at depth L exactly where the low L bits of key / 16 are the same.
+pub bits-index : (key other L : ℕ) → key / 16 % 2 ^ L ≡ other / 16 % 2 ^ L → index key L ≡ index other L
+bits-index key other zero e = index-zero key ∙ sym (index-zero other)
+bits-index key other (suc L) e =
+    let k = key / 16 in
+    let o = other / 16 in
+    let fewer : k % 2 ^ L ≡ o % 2 ^ L = sym (low-fewer k L) ∙ ap (λ (n : ℕ). n % 2 ^ L) e ∙ low-fewer o L in
+    let last : k / 2 ^ L % 2 ≡ o / 2 ^ L % 2 = sym (low-last k L) ∙ ap (λ (n : ℕ). n / 2 ^ L) e ∙ low-last o L in
+    rw (index-suc key L, bits-index key other L fewer, bit-shift key L, last, ← bit-shift other L) (sym (index-suc other L))
+
+pub index-bits : (key other L : ℕ) → index key L ≡ index other L → key / 16 % 2 ^ L ≡ other / 16 % 2 ^ L
+index-bits key other zero e = omega arith
+index-bits key other (suc L) e =
+    let fewer : index key L ≡ index other L = sym (index-half key L) ∙ ap (λ (n : ℕ). n / 2) e ∙ index-half other L in
+    let last : bit key L ≡ bit other L = sym (index-mod key L) ∙ ap (λ (n : ℕ). n % 2) e ∙ index-mod other L in
+    let shifted : key / 16 / 2 ^ L % 2 ≡ other / 16 / 2 ^ L % 2 = sym (bit-shift key L) ∙ last ∙ bit-shift other L in
+    low-bits (key / 16) L ∙ rw (shifted, index-bits key other L fewer) (sym (low-bits (other / 16) L))
+
+-- Whether a key is live in the block of another key: by the low L bits of both.
+pub live-bits : (L other key : ℕ) → live L (index other L) key ≡ not (eqb key 0) && eqb (key / 16 % 2 ^ L) (other / 16 % 2 ^ L)
+unfolding live
+live-bits L other key =
+    ap (λ (t : Bool). not (eqb key 0) && t)
+    (same-test (eqb (index key L) (index other L)) (eqb (key / 16 % 2 ^ L) (other / 16 % 2 ^ L))
+    (λ t. eq-eqb _ _ (index-bits key other L (eqb-true _ _ t)))
+    (λ t. eq-eqb _ _ (bits-index key other L (eqb-true _ _ t))))
+
+-- The width of a block as a power, and the bits of a block by a shift.
+pub width-pow : (g L : ℕ) → width g L ≡ 2 ^ (g - L)
+unfolding width
+width-pow g L = refl
+
+-- In a directory of depth at most 12 no block is wider than 4,096.
+pub width-le : (g L : ℕ) → g ≤ 12 → width g L ≤ 4096
+unfolding width
+width-le g L h = pow-mono {i = g - L} {j = 12} (omega arith)
+
+pub blockBits-shift : (g L i : ℕ) → blockBits g L i ≡ i / 2 ^ (g - L)
+unfolding blockBits width
+blockBits-shift g L i = refl
+
+-- What is left of a key above its first t directory bits. Its last bit is directory bit number t.
+pub above : (key t : ℕ) → ℕ
+above key t = key / 2 ^ (4 + t)
+
+pub above-zero : (key : ℕ) → key / 16 ≡ above key 0
+unfolding above
+above-zero key = refl
+
+pub above-suc : (key t : ℕ) → above key t / 2 ≡ above key (suc t)
+unfolding above
+above-suc key t = div-div-eq-div-mul key (2 ^ (4 + t)) 2 ∙ rw (add-suc, pow-suc)
+
+pub index-above : (key t : ℕ) → index key (suc t) ≡ 2 * index key t + above key t % 2
+unfolding above bit
+index-above key t = index-suc key t
+
+-- Above the bucket, a number's own bits are directory bits, the lowest one first. A further bit x in front of them is the
+-- heaviest of the index.
+above-bucket : (n i : ℕ) → 16 * n / 2 ^ (4 + i) ≡ n / 2 ^ i
+above-bucket n i = rw (pow-add 2 4 i) (sym (div-div-eq-div-mul (16 * n) 16 (2 ^ i)) ∙ rw (mul-div-right n {m = 16} (omega arith)))
+
+bit-behind : (n x i : ℕ) → x < 2 → bit (16 * (2 * n + x)) (suc i) ≡ bit (16 * n) i
+unfolding bit
+bit-behind n x i h =
+    let half : (2 * n + x) / 2 ≡ n = omega arith in
+    rw (above-bucket (2 * n + x) (suc i), above-bucket n i, pow-succ' 2 i, ← div-div-eq-div-mul (2 * n + x) 2 (2 ^ i), half)
+
+pub index-in-front : (n x t : ℕ) → x < 2 → index (16 * (2 * n + x)) (suc t) ≡ x * 2 ^ t + index (16 * n) t
+unfolding bit
+index-in-front n x zero h = rw (index-suc, index-zero (16 * (2 * n + x)), index-zero (16 * n)) (omega arith)
+index-in-front n x (suc t) h =
+    let before : index (16 * (2 * n + x)) (suc t) ≡ x * 2 ^ t + index (16 * n) t = index-in-front n x t h in
+    let last : bit (16 * (2 * n + x)) (suc t) ≡ bit (16 * n) t = bit-behind n x t h in
+    let twice : x * 2 ^ suc t ≡ 2 * (x * 2 ^ t) = rw pow-succ' (mul-left-comm x 2 (2 ^ t)) in
+    omega (arith, index-suc (16 * (2 * n + x)) (suc t), index-suc (16 * n) t)

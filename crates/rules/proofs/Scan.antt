@@ -49,7 +49,7 @@ valid-leader g S i e h k = and-true h (eq-eqb (i % width g (localDepth e)) 0 k)
 -- ---- The leader of an index
 
 -- The width of the block that the entry at index l leads.
-abbrev ledWidth : List ℕ → (g l : ℕ) → ℕ
+abbrev pub ledWidth : List ℕ → (g l : ℕ) → ℕ
 ledWidth a g l = width g (localDepth (entryAt a g l))
 
 pub leader-zero : (a : List ℕ) (g : ℕ) → leader a g 0 ≡ 0
@@ -94,7 +94,7 @@ rest-of : (l w k : ℕ) → l % w ≡ 0 → k < w → (l + k) % w ≡ k
 rest-of l w k e h = add-mod l k w ∙ rw (e, mod-eq-of-lt h, zero-add) (mod-eq-of-lt h)
 
 -- An aligned leader leads all of its block.
-led : (a : List ℕ) (g l k : ℕ) → leader a g l ≡ l → l % ledWidth a g l ≡ 0 → k < ledWidth a g l → leader a g (l + k) ≡ l
+pub led : (a : List ℕ) (g l k : ℕ) → leader a g l ≡ l → l % ledWidth a g l ≡ 0 → k < ledWidth a g l → leader a g (l + k) ≡ l
 led a g l zero own e h = rw add-zero own
 led a g l (suc k) own e h =
     let before : leader a g (l + k) ≡ l = led a g l k own e (omega arith) in
@@ -102,7 +102,7 @@ led a g l (suc k) own e h =
     rw add-suc (leader-kept a g (l + k) (rw before (λ z. omega (arith, rw add-suc at rest))) ∙ before)
 
 -- Behind its block stands a leader.
-next-leads : (a : List ℕ) (g l : ℕ)
+pub next-leads : (a : List ℕ) (g l : ℕ)
     → leader a g l ≡ l → l % ledWidth a g l ≡ 0 → leader a g (l + ledWidth a g l) ≡ l + ledWidth a g l
 next-leads a g l own e = go (ledWidth a g l - 1) (omega (arith, width-pos g (localDepth (entryAt a g l))))
   where

@@ -1,0 +1,30 @@
+-- The stores of the copy step for one slot.
+-- Assumes nothing.
+use Prim.Native.Nat.{ℕ, _+_, _*_, _≤_}
+use native.Mathlib.Nat.{zero-add}
+use native.Mathlib.Omega.{arith}
+use mathlib.Core.Path.{_≡_}
+use mathlib.Core.Bool.{true, false}
+use mathlib.Core.List.{List, [], _∷_}
+use mathlib.Core.Logic.{⊎-elim}
+use lib.ListN.{length}
+use Rattle.stores.specs.Store.{store}
+use Rattle.stores.proofs.Tests.{cases}
+use Rattle.rules.specs.Split.{moves, copySlot}
+use Rattle.segment.specs.Slot.{Holds}
+
+module _ (a : List ℕ) (L bits j key value : ℕ) where
+  pub copy-moved : Holds a j key value → moves a 0 L bits j ≡ true
+      → copySlot a 0 0 L bits j ≡ store (2 * j + 1) value ∷ store (2 * j) key ∷ []
+  unfolding copySlot
+  copy-moved h t = rw (t, h .key-there, h .value-there, zero-add (2 * j), zero-add (2 * j + 1))
+
+  pub copy-cleared : moves a 0 L bits j ≡ false → copySlot a 0 0 L bits j ≡ store (2 * j) 0 ∷ []
+  unfolding copySlot
+  copy-cleared t = rw (t, zero-add (2 * j))
+
+pub copy-short : (a : List ℕ) (L bits j : ℕ) → length (copySlot a 0 0 L bits j) ≤ 2
+unfolding copySlot
+copy-short a L bits j =
+    ⊎-elim (λ (t : moves a 0 L bits j ≡ true). rw t (omega arith)) (λ (t : moves a 0 L bits j ≡ false). rw t (omega arith))
+    (cases (moves a 0 L bits j))

@@ -1,0 +1,118 @@
+-- Live records slot by slot, their words, and words written to a list one behind the other.
+-- Assumes nothing.
+use Prim.Native.Nat.{ℕ, zero, suc, _+_, _*_, _≤_, _<_}
+use native.Mathlib.Nat.{add-zero, eq-or-lt-of-le, le-of-suc-le-suc, not-suc-le-zero}
+use native.Mathlib.Numerals.{add-one}
+use native.Mathlib.Omega.{arith}
+use mathlib.Core.Path.{_≡_, refl, sym, ap, _∙_}
+use mathlib.Core.Bool.{true, false}
+use mathlib.Core.List.{List, [], _∷_, _++_, append-assoc, append-nil}
+use mathlib.Core.Logic.{⊎-elim}
+use lib.ListN.{length, take, drop, set, length-append, take-append-drop}
+use lib.Seq.{length-take-le, sets-eq, take-at, drop-append-add, drop-drop}
+use Rattle.stores.specs.Lists.{each}
+use Rattle.stores.proofs.Lists.{each-zero, each-suc}
+use Rattle.rules.specs.Layout.{keyAt, valueAt}
+use Rattle.rules.specs.Keys.{live}
+use Rattle.rules.specs.Listing.{Record, liveRecord, wordsOf}
+use Rattle.segment.specs.Slot.{Holds}
+use Rattle.segment.specs.Listing.{Written}
+
+-- ---- The live records of the first slots
+
+-- The live records of the slots below n.
+abbrev pub recordsBelow : List ℕ → (L bits n : ℕ) → List Record
+recordsBelow a L bits n = each (liveRecord a 0 L bits) n
+
+module _ (a : List ℕ) (L bits : ℕ) where
+  record-live : (j : ℕ) → live L bits (keyAt a 0 j) ≡ true
+      → liveRecord a 0 L bits j ≡ record { key = keyAt a 0 j; value = valueAt a 0 j } ∷ []
+  unfolding liveRecord
+  record-live j t = rw t
+
+  record-stale : (j : ℕ) → live L bits (keyAt a 0 j) ≡ false → liveRecord a 0 L bits j ≡ []
+  unfolding liveRecord
+  record-stale j t = rw t
+
+  pub records-none : recordsBelow a L bits 0 ≡ []
+  records-none = each-zero (liveRecord a 0 L bits)
+
+  pub records-more : (n : ℕ) → recordsBelow a L bits (n + 1) ≡ recordsBelow a L bits n ++ liveRecord a 0 L bits n
+  records-more n = rw (add-one n) (each-suc (liveRecord a 0 L bits) n)
+
+  count-more : (n : ℕ) → length (recordsBelow a L bits (n + 1)) ≡ length (recordsBelow a L bits n) + length (liveRecord a 0 L bits n)
+  count-more n = rw (records-more n) (length-append (recordsBelow a L bits n) (liveRecord a 0 L bits n))
+
+  pub count-live : (n : ℕ) → live L bits (keyAt a 0 n) ≡ true → length (recordsBelow a L bits (n + 1)) ≡ length (recordsBelow a L bits n) + 1
+  count-live n t = count-more n ∙ rw (record-live n t)
+
+  pub count-stale : (n : ℕ) → live L bits (keyAt a 0 n) ≡ false → length (recordsBelow a L bits (n + 1)) ≡ length (recordsBelow a L bits n)
+  count-stale n t = count-more n ∙ rw (record-stale n t) (add-zero (length (recordsBelow a L bits n)))
+
+  -- A live slot below n counts among the records below n.
+  pub count-room : (j n : ℕ) → j < n → live L bits (keyAt a 0 j) ≡ true
+      → length (recordsBelow a L bits j) + 1 ≤ length (recordsBelow a L bits n)
+  count-room j zero k t = absurd (not-suc-le-zero k)
+  count-room j (suc n) k t =
+      ⊎-elim
+      (λ (q : j ≡ n). rw (← q, ← add-one j) (omega (arith, count-live j t)))
+      (λ (q : j < n). rw (← add-one n) (omega (arith, count-room j n q t, count-more n)))
+      (eq-or-lt-of-le (le-of-suc-le-suc k))
+
+-- ---- Records as words
+
+pub words-none : wordsOf [] ≡ []
+unfolding wordsOf
+words-none = refl
+
+words-one : (r : Record) → wordsOf (r ∷ []) ≡ r .key ∷ r .value ∷ []
+unfolding wordsOf
+words-one r = refl
+
+pub words-append : (rs ss : List Record) → wordsOf (rs ++ ss) ≡ wordsOf rs ++ wordsOf ss
+unfolding wordsOf
+words-append [] ss = refl
+words-append (r ∷ rs) ss = ap (λ (l : List ℕ). r .key ∷ r .value ∷ l) (words-append rs ss)
+
+pub length-words : (rs : List Record) → length (wordsOf rs) ≡ 2 * length rs
+unfolding wordsOf
+length-words [] = refl
+length-words (r ∷ rs) = let h : length (wordsOf rs) ≡ 2 * length rs = length-words rs in omega arith
+
+-- ---- Words written to a list
+
+pub written-none : (at : ℕ) (l : List ℕ) → Written [] at l at l
+written-none at l =
+    record { behind = omega arith; list = rw (append-nil (take at l), add-zero at) (sym (take-append-drop at l)) }
+
+written-pair : (k v at : ℕ) (l : List ℕ) → at + 2 ≤ length l → Written (k ∷ v ∷ []) at l (at + 2) (set (set l at k) (at + 1) v)
+written-pair k v at l h = record { behind = refl; list = rw (add-one at) (sets-eq (k ∷ v ∷ []) l at h) }
+
+-- Words behind words.
+pub written-append : (vs ws : List ℕ) (at : ℕ) (l : List ℕ) (m : ℕ) (l₁ : List ℕ) (n : ℕ) (l₂ : List ℕ) → at ≤ length l
+    → Written vs at l m l₁ → Written ws m l₁ n l₂ → Written (vs ++ ws) at l n l₂
+written-append vs ws at l m l₁ n l₂ h p q =
+    let front : List ℕ = take at l ++ vs in
+    let back : List ℕ = drop (at + length vs) l in
+    let m′ : m ≡ length front = p .behind ∙ sym (length-append (take at l) vs ∙ rw (length-take-le at l h)) in
+    let long : at + length vs + length ws ≡ at + length (vs ++ ws) = rw (length-append vs ws) (omega arith) in
+    let kept : take m l₁ ≡ front = rw (p .list) (take-at front back m (sym m′)) in
+    let left : drop (m + length ws) l₁ ≡ drop (at + length (vs ++ ws)) l =
+    rw (p .list, m′) (drop-append-add front back (length ws))
+    ∙ drop-drop (length ws) (at + length vs) l
+    ∙ ap (λ (k : ℕ). drop k l) long in
+    record {
+      behind = rw (length-append vs ws) (omega (arith, p .behind, q .behind));
+      list = q .list ∙ rw (kept, left, append-assoc (take at l) vs ws);
+    }
+
+-- A slot's record written, or not, by its key.
+module _ (a : List ℕ) (L bits j key value : ℕ) (k : Holds a j key value) (at : ℕ) (l : List ℕ) where
+  pub written-live : live L bits key ≡ true → at + 2 ≤ length l
+      → Written (wordsOf (liveRecord a 0 L bits j)) at l (at + 2) (set (set l at key) (at + 1) value)
+  written-live t h =
+      rw (record-live a L bits j (rw (k .key-there) t), words-one (record { key = keyAt a 0 j; value = valueAt a 0 j }), k .key-there, k .value-there)
+      (written-pair key value at l h)
+
+  pub written-stale : live L bits key ≡ false → Written (wordsOf (liveRecord a 0 L bits j)) at l at l
+  written-stale t = rw (record-stale a L bits j (rw (k .key-there) t), words-none) (written-none at l)

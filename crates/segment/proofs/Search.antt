@@ -1,0 +1,123 @@
+-- The search through the buckets of a probe window and the slots of a bucket, turn by turn.
+-- Assumes nothing.
+use Prim.Native.Nat.{ℕ, zero, suc, _+_, _*_, _<_}
+use native.Mathlib.Nat.{eq-or-lt-of-le, le-of-suc-le-suc, not-suc-le-zero}
+use native.Mathlib.Numerals.{add-one}
+use native.Mathlib.Omega.{arith}
+use borrow.Author.Tests.{eq-eqb, ne-eqb}
+use mathlib.Core.Path.{_≡_, refl, sym, ap, _∙_}
+use mathlib.Core.Bool.{Bool, true, false, not}
+use mathlib.Core.List.{List, [], _∷_, _++_}
+use mathlib.Core.Logic.{⊎-elim}
+use mathlib.Core.Option.{Option, none, some}
+use Rattle.stores.specs.Store.{word}
+use Rattle.stores.specs.Lists.{each, firstIn}
+use Rattle.stores.proofs.Lists.{each-suc, first-append, first-append-some, first-here, first-next}
+use Rattle.rules.specs.Layout.{keyAt}
+use Rattle.rules.specs.Keys.{live, slotsOf, window, windowBucket}
+use Rattle.rules.specs.Slots.{hit, usable, firstUsable, choose, chosen, found}
+use Rattle.rules.proofs.Keys.{slots-each, window-each}
+use Rattle.segment.specs.Bucket.{bucketWords, has}
+
+first-nothing : (p : ℕ → Bool) → firstIn p [] ≡ none
+unfolding firstIn
+first-nothing p = refl
+
+-- ---- Joined lists, one by one
+
+module _ (p : ℕ → Bool) (f : ℕ → List ℕ) where
+  -- Nothing in the lists so far passes, and nothing in the next one.
+  each-pass : (n : ℕ) → firstIn p (each f n) ≡ none → firstIn p (f n) ≡ none → firstIn p (each f (n + 1)) ≡ none
+  each-pass n e h = rw (add-one n, each-suc f n) (first-append p (each f n) (f n) e ∙ h)
+
+  -- The first in the next list is the first in all that follow too.
+  each-hit : (y m n : ℕ) → m < n → firstIn p (each f m) ≡ none → firstIn p (f m) ≡ some y → firstIn p (each f n) ≡ some y
+  each-hit y m zero k e h = absurd (not-suc-le-zero k)
+  each-hit y m (suc n) k e h =
+      rw (each-suc f n)
+      (⊎-elim
+      (λ (q : m ≡ n). rw (← q) (first-append p (each f m) (f m) e ∙ h))
+      (λ (q : m < n). first-append-some p (each f n) (f n) y (each-hit y m n q e h))
+      (eq-or-lt-of-le (le-of-suc-le-suc k)))
+
+-- ---- The slots of a bucket
+
+-- The slots of bucket b before its slot j.
+abbrev pub slotsBefore : (b j : ℕ) → List ℕ
+slotsBefore b j = each (λ i. (4 * b + i) ∷ []) j
+
+module _ (p : ℕ → Bool) (b : ℕ) where
+  pub no-slot-yet : firstIn p (slotsBefore b 0) ≡ none
+  unfolding each
+  no-slot-yet = first-nothing p
+
+  pub slot-passed : (j : ℕ) → firstIn p (slotsBefore b j) ≡ none → p (4 * b + j) ≡ false → firstIn p (slotsBefore b (j + 1)) ≡ none
+  slot-passed j e h =
+      each-pass p (λ i. (4 * b + i) ∷ []) j e (first-next p (4 * b + j) [] h ∙ first-nothing p)
+
+  pub slot-hit : (j : ℕ) → j < 4 → firstIn p (slotsBefore b j) ≡ none → p (4 * b + j) ≡ true → firstIn p (slotsOf b) ≡ some (4 * b + j)
+  slot-hit j k e h =
+      rw (slots-each b) (each-hit p (λ i. (4 * b + i) ∷ []) (4 * b + j) j 4 k e (first-here p (4 * b + j) [] h))
+
+  pub no-slot : firstIn p (slotsBefore b 4) ≡ none → firstIn p (slotsOf b) ≡ none
+  no-slot e = rw (slots-each b) e
+
+-- ---- The buckets of a probe window
+
+-- The slots of the key's probe window before its bucket number b.
+abbrev pub windowBefore : (key b : ℕ) → List ℕ
+windowBefore key b = each (λ i. slotsOf (windowBucket key i)) b
+
+module _ (p : ℕ → Bool) (key : ℕ) where
+  pub no-bucket-yet : firstIn p (windowBefore key 0) ≡ none
+  unfolding each
+  no-bucket-yet = first-nothing p
+
+  module _ (b number : ℕ) (q : number ≡ windowBucket key b) (e : firstIn p (windowBefore key b) ≡ none) where
+    pub bucket-passed : firstIn p (slotsOf number) ≡ none → firstIn p (windowBefore key (b + 1)) ≡ none
+    bucket-passed h = each-pass p (λ i. slotsOf (windowBucket key i)) b e (rw (← q) h)
+
+    pub bucket-hit : (y : ℕ) → b < 4 → firstIn p (slotsOf number) ≡ some y → firstIn p (window key) ≡ some y
+    bucket-hit y k h = rw (window-each key) (each-hit p (λ i. slotsOf (windowBucket key i)) y b 4 k e (rw (← q) h))
+
+pub window-more : (key b number : ℕ) → number ≡ windowBucket key b → windowBefore key (b + 1) ≡ windowBefore key b ++ slotsOf number
+window-more key b number q = rw (add-one b, q) (each-suc (λ i. slotsOf (windowBucket key i)) b)
+
+-- ---- A bucket's words
+
+-- The key of a bucket's slot j is that of slot 4 * b + j of the segment.
+bucket-key : (a : List ℕ) (b j : ℕ) → j < 4 → word (bucketWords a b) (2 * j) ≡ keyAt a 0 (4 * b + j)
+bucket-key a b zero k = ap (word a) (omega arith)
+bucket-key a b (suc zero) k = ap (word a) (omega arith)
+bucket-key a b (suc (suc zero)) k = ap (word a) (omega arith)
+bucket-key a b (suc (suc (suc zero))) k = ap (word a) (omega arith)
+bucket-key a b (suc (suc (suc (suc j)))) k = absurd (omega arith)
+
+-- Whether slot j of a bucket has the key, by the bucket's word.
+module _ (a words : List ℕ) (b j key : ℕ) (e : words ≡ bucketWords a b) (k : j < 4) where
+  bucket-slot : keyAt a 0 (4 * b + j) ≡ word words (2 * j)
+  bucket-slot = rw e (sym (bucket-key a b j k))
+
+  pub slot-has : word words (2 * j) ≡ key → has key a (4 * b + j) ≡ true
+  slot-has h = eq-eqb (keyAt a 0 (4 * b + j)) key (bucket-slot ∙ h)
+
+  pub slot-has-not : (word words (2 * j) ≡ key → ⊥) → has key a (4 * b + j) ≡ false
+  slot-has-not h = ne-eqb (keyAt a 0 (4 * b + j)) key (λ q. h (sym bucket-slot ∙ q))
+
+  pub slot-usable : (L bits : ℕ) (t : Bool) → t ≡ live L bits (word words (2 * j)) → usable a 0 L bits (4 * b + j) ≡ not t
+  unfolding usable
+  slot-usable L bits t h = rw (bucket-slot, h)
+
+-- ---- The choice of a slot
+
+module _ (a : List ℕ) (L bits key : ℕ) where
+  -- A slot of the window has the key.
+  pub choose-found : (j : ℕ) → firstIn (has key a) (window key) ≡ some j → choose a 0 L bits key ≡ found j
+  unfolding choose chosen hit
+  choose-found j e = rw e
+
+  -- None has it, and the first usable one is known.
+  pub choose-else : (u : Option ℕ) → firstIn (has key a) (windowBefore key 4) ≡ none
+      → u ≡ firstIn (usable a 0 L bits) (windowBefore key 4) → choose a 0 L bits key ≡ chosen none u
+  unfolding choose hit firstUsable
+  choose-else u e f = rw (window-each key, e, f)

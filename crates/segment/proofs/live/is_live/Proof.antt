@@ -1,0 +1,44 @@
+-- `segment::live::is_live` meets its contract: the mask of L ones keeps the low L bits, and those give the index.
+-- Assumes nothing.
+use Prim.Native.Nat.{ℕ, _*_, _-_, _/_, _%_, _^_, _≤_}
+use borrow.Author.Needs.{needs}
+use borrow.Author.Tests.{eq-eqb, ne-eqb}
+use native.Mathlib.Nat.{one-mul}
+use native.Mathlib.Omega.{arith}
+use mathlib.Core.Path.{_≡_, _∙_}
+use lib.Bits.{bitAnd, and-mask}
+use lib.Pow.{pow-pos, shl-exact}
+use Rattle.rules.proofs.Keys.{live-bits}
+use Rattle.segment.proofs.live.is_live.Statement.{statement}
+use Rattle.segment.proofs.live.is_live.Tie as tie
+
+shifted-one : (L : ℕ) → L ≤ 12 → 1 * 2 ^ L % 18446744073709551616 ≡ 2 ^ L
+shifted-one L h = shl-exact {a = 1} 1 L 64 (search needs) (omega arith) ∙ one-mul (2 ^ L)
+
+masked : (L n : ℕ) → L ≤ 12 → bitAnd n (1 * 2 ^ L % 18446744073709551616 - 1) ≡ n % 2 ^ L
+masked L n h = rw (shifted-one L h) (and-mask n L)
+
+shl-mask : tie.Need-shl-mask
+shl-mask c = search needs
+
+sub-mask : tie.Need-sub-mask
+sub-mask c = omega (arith, shifted-one (c .args .local-depth) (c .pre), pow-pos (c .args .local-depth))
+
+returns : tie.Need-returns
+returns c =
+    let a = c .before .args in
+    let L = a .local-depth in
+    rw (
+      masked L (a .key / 16) (c .before .pre),
+      masked L (a .block-key / 16) (c .before .pre),
+      live-bits L (a .block-key) (a .key),
+      ne-eqb (a .key) 0 (c .if1 .taken),
+    )
+
+returns-2 : tie.Need-returns-2
+returns-2 c =
+    let a = c .before .args in
+    rw (live-bits (a .local-depth) (a .block-key) (a .key), eq-eqb (a .key) 0 (c .if1 .left))
+
+pub is-live-spec : {M : Type 1} → statement M
+is-live-spec = tie.close (tie.spec shl-mask sub-mask returns returns-2)

@@ -1,0 +1,35 @@
+-- `segment::live::moves` meets its contract.
+-- Assumes nothing.
+use borrow.Author.Needs.{needs}
+use mathlib.Core.Path.{_≡_, sym, _∙_}
+use mathlib.Core.Bool.{true, false}
+use Rattle.rules.specs.Keys.{index, live}
+use Rattle.rules.specs.Split.{moves}
+use Rattle.rules.proofs.Keys.{bit-shift}
+use Rattle.segment.proofs.live.moves.Statement.{statement}
+use Rattle.segment.proofs.live.moves.Tie as tie
+
+is-live-requires : tie.Need-is-live-requires
+is-live-requires c κs = search needs
+
+shr-result : tie.Need-shr-result
+shr-result c = search needs
+
+returns : tie.Need-returns
+unfolding moves
+returns c =
+    let a = c .before .before .args in
+    let L = a .local-depth in
+    let lives : live L (index (a .block-key) L) (a .key) ≡ true = sym (c .before .is-live .ensures) ∙ c .if1 .taken in
+    λ s j e. rw (e, lives, bit-shift (a .key) L)
+
+returns-2 : tie.Need-returns-2
+unfolding moves
+returns-2 c =
+    let a = c .before .before .args in
+    let L = a .local-depth in
+    let stale : live L (index (a .block-key) L) (a .key) ≡ false = sym (c .before .is-live .ensures) ∙ c .if1 .left in
+    λ s j e. rw (e, stale) (c .if1 .left)
+
+pub moves-spec : {M : Type 1} → statement M
+moves-spec = tie.close (tie.spec is-live-requires shr-result returns returns-2)

@@ -1,0 +1,41 @@
+-- A bucket of a segment, and the search through its four slots.
+-- Assumes nothing.
+use Prim.Native.Nat.{ℕ, _+_, _*_}
+use mathlib.Core.Path.{_≡_}
+use mathlib.Core.Bool.{Bool}
+use mathlib.Core.List.{List, [], _∷_, _++_}
+use mathlib.Core.Option.{Option}
+use lib.Dec.{eqb}
+use Rattle.stores.specs.Store.{word}
+use Rattle.stores.specs.Lists.{firstIn}
+use Rattle.rules.specs.Layout.{keyAt}
+use Rattle.rules.specs.Keys.{slotsOf}
+
+-- The eight words of bucket b of a segment.
+abbrev pub bucketWords : List ℕ → (b : ℕ) → List ℕ
+bucketWords segment b =
+    word segment (8 * b)
+    ∷ word segment (8 * b + 1)
+    ∷ word segment (8 * b + 2)
+    ∷ word segment (8 * b + 3)
+    ∷ word segment (8 * b + 4)
+    ∷ word segment (8 * b + 5)
+    ∷ word segment (8 * b + 6)
+    ∷ word segment (8 * b + 7)
+    ∷ []
+
+-- Slot j of a segment has the key.
+abbrev pub has : (key : ℕ) → List ℕ → (j : ℕ) → Bool
+has key segment j = eqb (keyAt segment 0 j) key
+
+-- In every segment whose bucket b has these words, the answer is the first slot of that bucket that passes the test.
+abbrev pub FirstInBucket : (test : List ℕ → ℕ → Bool) (words : List ℕ) (b : ℕ) (answer : Option ℕ) → Type 0
+FirstInBucket test words b answer = (segment : List ℕ) → words ≡ bucketWords segment b → answer ≡ firstIn (test segment) (slotsOf b)
+
+-- The same where the search went through other slots before, with the answer `earlier`.
+abbrev pub FirstUpToBucket : (test : List ℕ → ℕ → Bool) (words : List ℕ) (b : ℕ) (earlier answer : Option ℕ) → Type 0
+FirstUpToBucket test words b earlier answer =
+    (segment before : List ℕ)
+    → words ≡ bucketWords segment b
+    → earlier ≡ firstIn (test segment) before
+    → answer ≡ firstIn (test segment) (before ++ slotsOf b)

@@ -1,0 +1,23 @@
+-- What the listing of one segment promises.
+-- Assumes nothing.
+use Prim.Native.Nat.{ℕ, _+_, _≤_}
+use mathlib.Core.Path.{_≡_}
+use mathlib.Core.List.{List, _++_}
+use lib.ListN.{length, take, drop}
+use Rattle.stores.specs.Lists.{each}
+use Rattle.rules.specs.Listing.{Record, liveRecord}
+
+-- The live records of a segment of local depth L with these block bits, slots rising.
+abbrev pub liveRecords : List ℕ → (L bits : ℕ) → List Record
+liveRecords segment L bits = each (liveRecord segment 0 L bits) 64
+
+-- The number of the live records, which is at most that of the slots.
+pub record Counted (segment : List ℕ) (L bits count : ℕ) : Type 0 where
+  pub exact : count ≡ length (liveRecords segment L bits)
+  pub small : count ≤ 64
+
+-- The words have been written to the list from position `at` on, all else in it is as it was, and `next` is the position
+-- behind them.
+pub record Written (words : List ℕ) (at : ℕ) (before : List ℕ) (next : ℕ) (after : List ℕ) : Type 0 where
+  pub behind : next ≡ at + length words
+  pub list : after ≡ take at before ++ words ++ drop (at + length words) before

@@ -1,0 +1,54 @@
+// A bucket: four slots, eight words taken together as one value.
+ghost use Prim.Native.Nat.{_<_};
+ghost use mathlib.Core.Path.{_≡_};
+ghost use lib.ListN.{length};
+ghost use Rattle.rules.specs.Keys.{bucket, windowBucket};
+ghost use Rattle.segment.specs.Bucket.{bucketWords};
+
+// The buckets of a segment, the buckets of a key's probe window, and the slots and words of a bucket.
+pub const BUCKETS: usize = 16;
+
+pub const WINDOW_BUCKETS: usize = 4;
+
+pub const BUCKET_SLOTS: usize = 4;
+
+pub const BUCKET_WORDS: usize = 8;
+
+pub struct Bucket {
+    pub words: [u64; BUCKET_WORDS],
+}
+
+// The bucket of a segment with this number.
+pub fn bucket_at(segment: &[u64], number: usize) -> Bucket
+    requires { ⌜ (length (now segment) ≡ 128) × (number < 16) ⌝ }
+    ensures { λ r. ⌜ r .words ≡ bucketWords (now (segment .entry)) number ⌝ }
+{
+    let first = BUCKET_WORDS * number;
+    Bucket {
+        words: [
+            segment[first],
+            segment[first + 1],
+            segment[first + 2],
+            segment[first + 3],
+            segment[first + 4],
+            segment[first + 5],
+            segment[first + 6],
+            segment[first + 7],
+        ],
+    }
+}
+
+// The number of the key's bucket.
+pub fn bucket_of(key: u64) -> usize
+    ensures { λ r. ⌜ r ≡ bucket key ⌝ }
+{
+    key as usize % BUCKETS
+}
+
+// The number of bucket b of the key's probe window, bucket 0 following 15.
+pub fn window_bucket(key: u64, b: usize) -> usize
+    requires { ⌜ b < 4 ⌝ }
+    ensures { λ r. ⌜ r ≡ windowBucket key b ⌝ }
+{
+    (bucket_of(key) + b) % BUCKETS
+}

@@ -1,0 +1,81 @@
+// The slot for a put.
+use crate::bucket::BUCKET_SLOTS;
+use crate::bucket::Bucket;
+use crate::bucket::WINDOW_BUCKETS;
+use crate::bucket::bucket_at;
+use crate::bucket::window_bucket;
+use crate::live::is_live;
+use crate::probe::Hit;
+ghost use Prim.Native.Nat.{_≤_, _<_};
+ghost use mathlib.Core.Path.{_≡_};
+ghost use lib.ListN.{length};
+ghost use Rattle.rules.specs.Keys.{index};
+ghost use Rattle.rules.specs.Slots.{usable, choose};
+ghost use Rattle.segment.specs.Bucket.{has, FirstInBucket, FirstUpToBucket};
+ghost use Rattle.segment.specs.Answers.{hitOf, choiceOf};
+
+// Where a put goes: to the slot that has the key, into a usable slot, or nowhere, since the probe
+// window is full of other live keys.
+pub enum Choice {
+    Found(usize),
+    Into(usize),
+    Full,
+}
+
+// The first slot of the bucket that holds the key; the bucket has this number in its segment.
+fn slot_with_key(bucket: Bucket, number: usize, key: u64) -> Hit
+    requires { ⌜ number < 16 ⌝ }
+    ensures { λ r. ⌜ FirstInBucket (has key) (bucket .words) number (hitOf r) ⌝ }
+{
+    for j in 0..BUCKET_SLOTS {
+        if bucket.words[2 * j] == key {
+            return Hit::At(BUCKET_SLOTS * number + j);
+        }
+    }
+    Hit::Absent
+}
+
+// The first slot of the bucket that is usable in the key's segment: empty, or with a stale key.
+fn usable_slot(bucket: Bucket, number: usize, local_depth: u32, key: u64) -> Hit
+    requires { ⌜ (number < 16) × («local_depth» ≤ 12) ⌝ }
+    ensures { λ r. ⌜ FirstInBucket (λ a. usable a 0 «local_depth» (index key «local_depth»)) (bucket .words) number (hitOf r) ⌝ }
+{
+    for j in 0..BUCKET_SLOTS {
+        if !is_live(local_depth, key, bucket.words[2 * j]) {
+            return Hit::At(BUCKET_SLOTS * number + j);
+        }
+    }
+    Hit::Absent
+}
+
+// The usable slot that the buckets before this one have, or else this one's.
+fn usable_from(earlier: Hit, bucket: Bucket, number: usize, local_depth: u32, key: u64) -> Hit
+    requires { ⌜ (number < 16) × («local_depth» ≤ 12) ⌝ }
+    ensures { λ r. ⌜ FirstUpToBucket (λ a. usable a 0 «local_depth» (index key «local_depth»)) (bucket .words) number (hitOf earlier) (hitOf r) ⌝ }
+{
+    match earlier {
+        Hit::At(slot) => Hit::At(slot),
+        Hit::Absent => usable_slot(bucket, number, local_depth, key),
+    }
+}
+
+// The slot for a put of the key into its segment, of this local depth. A hit in any bucket comes
+// before a usable slot in an earlier one.
+pub fn choose(segment: &[u64], local_depth: u32, key: u64) -> Choice
+    requires { ⌜ (length (now segment) ≡ 128) × («local_depth» ≤ 12) ⌝ }
+    ensures { λ r. ⌜ choiceOf r ≡ choose (now (segment .entry)) 0 «local_depth» (index key «local_depth») key ⌝ }
+{
+    let mut usable = Hit::Absent;
+    for b in 0..WINDOW_BUCKETS {
+        let number = window_bucket(key, b);
+        let bucket = bucket_at(segment, number);
+        if let Hit::At(slot) = slot_with_key(bucket, number, key) {
+            return Choice::Found(slot);
+        }
+        usable = usable_from(usable, bucket, number, local_depth, key);
+    }
+    match usable {
+        Hit::At(slot) => Choice::Into(slot),
+        Hit::Absent => Choice::Full,
+    }
+}

@@ -1,0 +1,13 @@
+// The 128 words of one segment, lent as a part of the array: the search for a key, the slot for a
+// put, the copy step of a split, and listing. Slot j is word 2 * j, the key, and word 2 * j + 1,
+// the value.
+pub mod bucket;
+pub mod choice;
+pub mod copy;
+pub mod listing;
+pub mod live;
+pub mod probe;
+
+pub const SEGMENT_WORDS: usize = 128;
+
+pub const SLOTS: usize = 64;
