@@ -1,0 +1,34 @@
+-- What the scan answers, and where it stands behind each entry.
+-- Assumes nothing.
+use Prim.Native.Nat.{ℕ, _+_}
+use mathlib.Core.Bool.{Bool, false}
+use mathlib.Core.Option.{Option, none, some}
+use lib.Dec.{ltb, eqb}
+use Rattle.stores.specs.Lists.{pick}
+use Rattle.rules.specs.declared.Refusal.{Refusal}
+use Rattle.rules.specs.declared.Refusal.the-variants.{Broken as BrokenRefusal, Unmended as UnmendedRefusal}
+use Rattle.rules.specs.Layout.{localDepth}
+use Rattle.rules.specs.Keys.{width}
+use Rattle.rules.specs.Scan.{validLeader}
+use Rattle.directory.specs.declared.scan.Verdict.{Verdict}
+use Rattle.directory.specs.declared.scan.Verdict.the-variants.{Broken, Unmended, Consistent}
+use Rattle.directory.specs.declared.scan.Block.{Block}
+use Rattle.directory.specs.declared.scan.Step.{Step}
+use Rattle.directory.specs.declared.scan.Step.the-variants.{In, Stop}
+
+-- A verdict as a refusal of document 01, 'broken' or 'unmended', or none.
+abbrev pub verdictOf : Verdict → Option Refusal
+verdictOf Broken = some BrokenRefusal
+verdictOf Unmended = some UnmendedRefusal
+verdictOf Consistent = none
+
+-- The block that the entry e, at index i, leads in the directory of depth g.
+abbrev pub ledBlock : (g i e : ℕ) → Block
+ledBlock g i e = record { leading = e; end = i + width g (localDepth e) }
+
+-- Where a scan in the block b stands behind the entry e of index i: in b until it ends, `agree` being false from the first
+-- entry on that differs from its leader; then in the block that e leads, if e is valid there.
+unfoldable pub scanAt : (g S i e : ℕ) → Block → Bool → Step
+scanAt g S i e b agree =
+    pick (ltb i (b .end)) (In b (pick (eqb e (b .leading)) agree false))
+    (pick (validLeader g S i e) (In (ledBlock g i e) agree) (Stop Broken))

@@ -1,0 +1,64 @@
+// The stores of a mend.
+use crate::entry::block_width;
+use crate::entry::local_depth_of;
+use crate::header::Header;
+use crate::header::pow2;
+use crate::scan::Block;
+ghost use mathlib.Core.Path.{_≡_};
+ghost use mathlib.Core.Bool.{true};
+ghost use Prim.Native.Nat.{_≤_, _<_};
+ghost use lib.Dec.{ltb};
+ghost use lib.ListN.{length};
+ghost use Rattle.stores.specs.Lists.{pick};
+ghost use Rattle.stores.specs.Executed.{Executed};
+ghost use Rattle.rules.specs.Layout.{depth, segments, localDepth};
+ghost use Rattle.rules.specs.Scan.{leadersValid};
+ghost use Rattle.rules.specs.Mend.{mending};
+ghost use Rattle.directory.specs.Headers.{Describes};
+ghost use Rattle.directory.specs.Updates.{dueLimit, correction};
+ghost use Rattle.directory.specs.Scans.{ledBlock};
+
+// The block of index `i`, whose entry is `entry`: the block of the index before, until it ends.
+fn next_block(block: Block, entry: u64, i: usize, depth: u32) -> Block
+    requires { ⌜ (depth ≤ 12) × (i < 4096) × (block .end ≤ i → localDepth entry ≤ depth) ⌝ }
+    ensures { λ r. ⌜ r ≡ pick (ltb i (block .end)) block (ledBlock depth i entry) ⌝ }
+{
+    if i < block.end {
+        return block;
+    }
+    let end = i + block_width(depth, local_depth_of(entry));
+    Block {
+        leading: entry,
+        end,
+    }
+}
+
+// Stores the leading entry at `at`, if another stands there.
+fn mend_entry(words: &mut [u64], at: usize, leading: u64, allowed: u32, due: u32) -> u32
+    requires { ⌜ (at < length (now words)) × (due < 4294967295) ⌝ }
+    ensures { λ r. ⌜ Executed (correction (now (words .entry)) at leading) allowed due (now (words .entry)) r (now (words .exit)) ⌝ }
+{
+    let entry = words[at];
+    if entry != leading {
+        return stores::store_word(words, at, leading, allowed, due);
+    }
+    due
+}
+
+// One pass over the entries: each that differs from its block's leading entry gets that entry. A
+// leading entry is never stored, so the one that was read stays right under every allowance.
+pub fn mend_entries(words: &mut [u64], header: Header, allowed: u32, due: u32) -> u32
+    requires { ⌜ Describes header (now words) × (leadersValid (now words) (depth (now words)) (segments (now words)) ≡ true) × (due ≤ dueLimit) ⌝ }
+    ensures { λ r. ⌜ Executed (mending (now (words .entry))) allowed due (now (words .entry)) r (now (words .exit)) ⌝ }
+{
+    let count = pow2(header.depth);
+    let mut block = Block { leading: 0, end: 0 };
+    let mut total = due;
+    for i in 0..count {
+        let at = count + i;
+        block = next_block(block, words[at], i, header.depth);
+        let leading = block.leading;
+        total = mend_entry(words, at, leading, allowed, total);
+    }
+    total
+}
