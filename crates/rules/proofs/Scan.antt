@@ -214,7 +214,7 @@ joined-led before i none = refl
 joined-led before i (some found) = ap (λ (l : List ℕ). some l) (sym (append-assoc before (i ∷ []) found))
 
 -- Of i and the k indices behind it, only i adds to the joined list.
-each-one : (f : ℕ → List ℕ) (i k : ℕ) → ((j : ℕ) → i < j → j < i + suc k → f j ≡ []) → each f (i + suc k) ≡ each f i ++ f i
+pub each-one : {A : Type 0} (f : ℕ → List A) (i k : ℕ) → ((j : ℕ) → i < j → j < i + suc k → f j ≡ []) → each f (i + suc k) ≡ each f i ++ f i
 each-one f i zero h = rw (add-suc, add-zero) (each-suc f i)
 each-one f i (suc k) h =
     let front : each f (i + suc k) ≡ each f i ++ f i = each-one f i k (λ j p q. h j p (omega arith)) in

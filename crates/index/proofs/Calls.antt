@@ -1,0 +1,154 @@
+-- Each call's outcome, case by case, from what the code read, stored and answered.
+-- Assumes nothing.
+use mathlib.Core.Path.{_≡_, refl, sym, ap, _∙_}
+use mathlib.Core.Bool.{Bool, true, false}
+use mathlib.Core.List.{List, [], _∷_}
+use mathlib.Core.Option.{none, some}
+use Prim.Native.Nat.{ℕ, _+_, _*_, _≤_, _<_, min}
+use native.Mathlib.Omega.{arith}
+use borrow.Author.Tests.{le-leb, lt-leb, eq-eqb, ne-eqb}
+use lib.Dec.{leb}
+use lib.ListN.{length}
+use Rattle.stores.specs.Lists.{pick, each}
+use Rattle.stores.specs.Store.{store}
+use Rattle.stores.specs.Plan.{Plan}
+use Rattle.stores.specs.Executed.{Executed}
+use Rattle.stores.proofs.Stores.{executed-append}
+use Rattle.rules.specs.declared.Refusal.{Refusal}
+use Rattle.rules.specs.declared.Refusal.the-variants.{NoStore, NoKey, Broken, BadShape, TooShort}
+use Rattle.rules.specs.declared.Reply.the-variants.{Value, Absent, Refused}
+use Rattle.rules.specs.declared.Answer.{Answer}
+use Rattle.rules.specs.declared.Call.the-variants.{Format, Get, Remove, Mend}
+use Rattle.rules.specs.Layout.{validShape, validHeader, wordsFor, header, depth, segments, segmentAddress, keyAddress, valueAt}
+use Rattle.rules.specs.Scan.{inRange, leadersValid}
+use Rattle.rules.specs.Slots.{hit}
+use Rattle.rules.specs.Replies.{Said, done, absent, refused, refuse, saidBy, unless, tested, replied}
+use Rattle.rules.specs.Format.{formatTests, formatStores, format}
+use Rattle.rules.specs.Get.{keyEntry, keySegment, keyTests, getTests, valueAtHit, get}
+use Rattle.rules.specs.Put.{directoryTests, putTests}
+use Rattle.rules.specs.Remove.{removeTests, clearedAt, remove}
+use Rattle.rules.specs.Mend.{mendTests, mending, mend}
+use Rattle.rules.specs.Step.{step}
+use Rattle.directory.specs.declared.scan.Verdict.{Verdict}
+use Rattle.directory.specs.declared.scan.Verdict.the-variants.{Broken as BrokenVerdict, Unmended, Consistent}
+use Rattle.directory.specs.Scans.{verdictOf}
+use Rattle.directory.proofs.Answers.{verdict-unmended, verdict-consistent}
+use Rattle.index.specs.Answered.{Answered}
+use Rattle.index.proofs.Answers.{answered-stores, answered-only, answered-refused}
+
+-- What an answer behind stores says, where `due` were due: the reply is the plan's, or 7.
+abbrev pub Told : (r : Answer) (reply : Said) (allowed due : ℕ) → Type 0
+Told r reply allowed due = (saidBy (r .reply) ≡ pick (leb due allowed) reply (refused 7)) × (r .stores ≡ min allowed due)
+
+-- What an answer with no store says.
+abbrev pub Without : (r : Answer) (reply : Said) → Type 0
+Without r reply = (saidBy (r .reply) ≡ reply) × (r .stores ≡ 0)
+
+-- ---- Format
+
+-- The stores of a format, one phase behind the other.
+pub format-stores : (D S allowed : ℕ) (a : List ℕ) (n₁ : ℕ) (a₁ : List ℕ) (n₂ : ℕ) (a₂ : List ℕ) (base n₃ : ℕ) (a₃ : List ℕ) (w n₄ : ℕ) (a₄ : List ℕ)
+    → base ≡ segmentAddress D 0 → w ≡ header 0 D S
+    → Executed (store 0 0 ∷ []) allowed 0 a n₁ a₁
+    → Executed (store 1 0 ∷ []) allowed n₁ a₁ n₂ a₂
+    → Executed (each (λ j. store (keyAddress base j) 0 ∷ []) 64) allowed n₂ a₂ n₃ a₃
+    → Executed (store 0 w ∷ []) allowed n₃ a₃ n₄ a₄
+    → Executed (formatStores D S) allowed 0 a n₄ a₄
+unfolding formatStores
+format-stores D S allowed a n₁ a₁ n₂ a₂ base n₃ a₃ w n₄ a₄ b v e₁ e₂ e₃ e₄ =
+    executed-append (store 0 0 ∷ []) _ allowed 0 a n₁ a₁ n₄ a₄ e₁
+    (executed-append (store 1 0 ∷ []) _ allowed n₁ a₁ n₂ a₂ n₄ a₄ e₂
+    (executed-append (each (λ j. store (keyAddress (segmentAddress D 0) j) 0 ∷ []) 64) (store 0 (header 0 D S) ∷ []) allowed n₂ a₂ n₃ a₃ n₄ a₄
+    (rw b at e₃) (rw v at e₄)))
+
+module _ (a : List ℕ) (D S allowance : ℕ) (r : Answer) where
+  pub format-bad-shape : validShape D S ≡ false → Without r (refused 8) → Answered (step a 0 (Format D S allowance)) r a
+  unfolding step format formatTests unless
+  format-bad-shape e k = answered-refused allowance (formatTests a D S) BadShape _ a r (rw e) (k .0) (k .1)
+
+  module _ (v : validShape D S ≡ true) where
+    pub format-too-short : length a < wordsFor D S → Without r (refused 9) → Answered (step a 0 (Format D S allowance)) r a
+    unfolding step format formatTests unless
+    format-too-short e k =
+        answered-refused allowance (formatTests a D S) TooShort _ a r (rw (v, lt-leb (wordsFor D S) (length a) e)) (k .0) (k .1)
+
+    pub format-done : wordsFor D S ≤ length a → (due : ℕ) (after : List ℕ) → Executed (formatStores D S) allowance 0 a due after
+        → Told r (done []) allowance due → Answered (step a 0 (Format D S allowance)) r after
+    unfolding step format formatTests unless tested
+    format-done e due after x k =
+        rw (v, le-leb (wordsFor D S) (length a) e)
+        (answered-stores allowance (record { due = formatStores D S; reply = done [] }) a r due after x k)
+
+-- ---- Get
+
+module _ (a : List ℕ) (key : ℕ) (r : Answer) where
+  get-answer : Without r (get a key) → Answered (step a 0 (Get key)) r a
+  unfolding step
+  get-answer k = record { reply = k .0; stores = k .1; words = refl }
+
+  pub get-no-store : validHeader a ≡ false → Without r (refused 1) → Answered (step a 0 (Get key)) r a
+  unfolding get getTests keyTests unless replied
+  get-no-store e k = get-answer (rw e k)
+
+  module _ (v : validHeader a ≡ true) where
+    pub get-no-key : key ≡ 0 → Without r (refused 2) → Answered (step a 0 (Get key)) r a
+    unfolding get getTests keyTests unless replied
+    get-no-key z k = get-answer (rw (v, eq-eqb key 0 z) k)
+
+    module _ (z : key ≡ 0 → ⊥) where
+      pub get-broken : inRange (depth a) (segments a) (keyEntry a key) ≡ false → Without r (refused 3) → Answered (step a 0 (Get key)) r a
+      unfolding get getTests keyTests unless replied
+      get-broken e k = get-answer (rw (v, ne-eqb key 0 z, e) k)
+
+      module _ (e : inRange (depth a) (segments a) (keyEntry a key) ≡ true) (base : ℕ) (b : keySegment a key ≡ base) where
+        pub get-absent : hit a base key ≡ none → Without r absent → Answered (step a 0 (Get key)) r a
+        unfolding get getTests keyTests unless replied valueAtHit
+        get-absent h k = get-answer (rw (v, ne-eqb key 0 z, e, b, h) k)
+
+        pub get-found : (j : ℕ) → hit a base key ≡ some j → Without r (done (valueAt a base j ∷ [])) → Answered (step a 0 (Get key)) r a
+        unfolding get getTests keyTests unless replied valueAtHit
+        get-found j h k = get-answer (rw (v, ne-eqb key 0 z, e, b, h) k)
+
+-- ---- Remove, whose tests are those of put
+
+module _ (a : List ℕ) (key allowance : ℕ) (r : Answer) where
+  pub remove-refused : (q : Refusal) → putTests a key ≡ some q → Without r (refuse q) → Answered (step a 0 (Remove key allowance)) r a
+  unfolding step remove removeTests putTests
+  remove-refused q e k = answered-refused allowance (removeTests a key) q _ a r e (k .0) (k .1)
+
+  module _ (e : putTests a key ≡ none) (base : ℕ) (b : keySegment a key ≡ base) where
+    pub remove-absent : hit a base key ≡ none → Without r absent → Answered (step a 0 (Remove key allowance)) r a
+    unfolding step remove removeTests putTests tested clearedAt
+    remove-absent h k = rw (e, b, h) (answered-only allowance absent a r (k .0) (k .1))
+
+    pub remove-done : (j : ℕ) → hit a base key ≡ some j → (due : ℕ) (after : List ℕ)
+        → Executed (store (keyAddress base j) 0 ∷ []) allowance 0 a due after → Told r (done []) allowance due
+        → Answered (step a 0 (Remove key allowance)) r after
+    unfolding step remove removeTests putTests tested clearedAt
+    remove-done j h due after x k =
+        rw (e, b, h) (answered-stores allowance (record { due = store (keyAddress base j) 0 ∷ []; reply = done [] }) a r due after x k)
+
+-- ---- Mend
+
+-- A verdict that is not 'broken' says that the leaders are valid.
+pub verdict-valid : (a : List ℕ) (v : Verdict) → verdictOf v ≡ directoryTests a none → (v ≡ BrokenVerdict → ⊥)
+    → leadersValid a (depth a) (segments a) ≡ true
+verdict-valid a BrokenVerdict e n = absurd (n refl)
+verdict-valid a Unmended e n = verdict-unmended a Unmended e refl .0
+verdict-valid a Consistent e n = verdict-consistent a Consistent e refl .0
+
+module _ (a : List ℕ) (allowance : ℕ) (r : Answer) where
+  pub mend-no-store : validHeader a ≡ false → Without r (refused 1) → Answered (step a 0 (Mend allowance)) r a
+  unfolding step mend mendTests unless
+  mend-no-store e k = answered-refused allowance (mendTests a) NoStore _ a r (rw e) (k .0) (k .1)
+
+  module _ (v : validHeader a ≡ true) where
+    pub mend-broken : leadersValid a (depth a) (segments a) ≡ false → Without r (refused 3) → Answered (step a 0 (Mend allowance)) r a
+    unfolding step mend mendTests unless
+    mend-broken e k = answered-refused allowance (mendTests a) Broken _ a r (rw (v, e)) (k .0) (k .1)
+
+    pub mend-done : leadersValid a (depth a) (segments a) ≡ true → (due : ℕ) (after : List ℕ)
+        → Executed (mending a) allowance 0 a due after → Told r (done []) allowance due → Answered (step a 0 (Mend allowance)) r after
+    unfolding step mend mendTests unless tested
+    mend-done e due after x k =
+        rw (v, e) (answered-stores allowance (record { due = mending a; reply = done [] }) a r due after x k)

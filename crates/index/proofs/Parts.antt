@@ -1,0 +1,68 @@
+-- A segment lent as a part of the array, against the same segment in the whole.
+-- Assumes nothing.
+use mathlib.Core.Path.{_≡_, refl, sym, ap, ap₂, _∙_}
+use mathlib.Core.Bool.{Bool, not}
+use mathlib.Core.List.{List, [], _∷_, List·Memᴰ}
+use mathlib.Core.Option.{Option, some}
+use Prim.Native.Nat.{ℕ, _+_, _-_, _*_, _≤_, _<_}
+use native.Mathlib.Nat.{zero-add}
+use native.Mathlib.Omega.{arith}
+use lib.Dec.{eqb}
+use lib.ListN.{length, take, drop, length-drop}
+use lib.Seq.{length-take-le, getD-take, getD-drop}
+use Rattle.stores.specs.Store.{word}
+use Rattle.stores.specs.Lists.{pick, each}
+use Rattle.stores.proofs.Lists.{each-same, first-same, first-some}
+use Rattle.rules.specs.Layout.{keyAt, valueAt}
+use Rattle.rules.specs.Keys.{live, window}
+use Rattle.rules.specs.Slots.{hit, usable, firstUsable, chosen, choose}
+use Rattle.rules.specs.Listing.{Record, liveRecord}
+use Rattle.rules.proofs.Keys.{window-lt}
+
+-- The words of the segment at `base`, and as the code says it, by its start and its end.
+abbrev pub segmentIn : List ℕ → (base : ℕ) → List ℕ
+segmentIn a base = take 128 (drop base a)
+
+pub span : (base : ℕ) → base + 128 - base ≡ 128
+span base = omega arith
+
+module _ (a : List ℕ) (base : ℕ) (fits : base + 128 ≤ length a) where
+  pub part-length : length (segmentIn a base) ≡ 128
+  part-length = length-take-le 128 (drop base a) (rw length-drop (omega arith))
+
+  -- ---- Words
+
+  pub part-word : (i : ℕ) → i < 128 → word (segmentIn a base) i ≡ word a (base + i)
+  part-word i k = getD-take 128 (drop base a) i 0 k ∙ getD-drop base a i 0
+
+  pub part-key : (j : ℕ) → j < 64 → keyAt (segmentIn a base) 0 j ≡ keyAt a base j
+  part-key j k = part-word (0 + 2 * j) (omega arith) ∙ ap (λ (i : ℕ). word a (base + i)) (zero-add (2 * j))
+
+  pub part-value : (j : ℕ) → j < 64 → valueAt (segmentIn a base) 0 j ≡ valueAt a base j
+  part-value j k = part-word (0 + (2 * j + 1)) (omega arith) ∙ ap (λ (i : ℕ). word a (base + i)) (zero-add (2 * j + 1))
+
+  -- ---- The search and the choice of a slot
+
+  pub part-hit : (key : ℕ) → hit (segmentIn a base) 0 key ≡ hit a base key
+  unfolding hit
+  part-hit key = first-same _ _ (window key) (λ j m. ap (λ (k : ℕ). eqb k key) (part-key j (window-lt key j m)))
+
+  pub part-usable : (L bits key : ℕ) → firstUsable (segmentIn a base) 0 L bits key ≡ firstUsable a base L bits key
+  unfolding firstUsable usable
+  part-usable L bits key =
+      first-same _ _ (window key) (λ j m. ap (λ (k : ℕ). not (live L bits k)) (part-key j (window-lt key j m)))
+
+  pub part-choose : (L bits key : ℕ) → choose (segmentIn a base) 0 L bits key ≡ choose a base L bits key
+  unfolding choose
+  part-choose L bits key = rw (part-hit key, part-usable L bits key)
+
+  -- ---- Live records
+
+  pub part-records : (L bits : ℕ) → each (liveRecord (segmentIn a base) 0 L bits) 64 ≡ each (liveRecord a base L bits) 64
+  unfolding liveRecord
+  part-records L bits = each-same _ _ 64 (λ j k. rw (part-key j k, part-value j k))
+
+-- The slot of a hit is one of the segment's.
+pub hit-slot : (a : List ℕ) (base key j : ℕ) → hit a base key ≡ some j → j < 64
+unfolding hit
+hit-slot a base key j e = window-lt key j (first-some _ (window key) j e .0)

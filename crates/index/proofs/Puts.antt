@@ -1,0 +1,271 @@
+-- The stores of a put at a slot, the cases of a put from what the code read, and a put behind a split.
+-- Assumes nothing.
+use mathlib.Core.Path.{_≡_, refl, sym, ap, _∙_}
+use mathlib.Core.Bool.{true, false, false≢true}
+use mathlib.Core.List.{List, [], _∷_}
+use mathlib.Core.Option.{none, some}
+use Prim.Native.Nat.{ℕ, suc, _+_, _*_, _-_, _≤_, _<_, min}
+use native.Mathlib.Nat.{min-eq-left, sub-zero, zero-add}
+use native.Mathlib.Omega.{arith}
+use borrow.Author.Tests.{le-leb, lt-leb, leb-true}
+use lib.Dec.{leb}
+use lib.ListN.{length, length-append}
+use Rattle.stores.specs.Store.{Store, store, exec, apply}
+use Rattle.stores.specs.Plan.{Plan, _then_, cut}
+use Rattle.stores.specs.Executed.{Executed}
+use Rattle.stores.proofs.Tests.{same-test}
+use Rattle.stores.proofs.Stores.{exec-append, exec-all, exec-not-made}
+use Rattle.stores.proofs.Plans.{made-allowed}
+use Rattle.rules.specs.declared.Refusal.{Refusal}
+use Rattle.rules.specs.declared.Refusal.the-variants.{TooDeep, NoSegment, CutOff}
+use Rattle.rules.specs.declared.Reply.the-variants.{Refused as RefusedReply}
+use Rattle.rules.specs.declared.Answer.{Answer}
+use Rattle.rules.specs.declared.Call.the-variants.{Put}
+use Rattle.rules.specs.Layout.{depth, maxDepth, segments, entryAt, localDepth, segmentAddress, valueAddress}
+use Rattle.rules.specs.Keys.{index}
+use Rattle.rules.specs.Scan.{inRange}
+use Rattle.rules.specs.Slots.{found, into, full, choose, freeSegment}
+use Rattle.rules.specs.Replies.{Said, refuse, saidBy}
+use Rattle.rules.specs.Get.{keyEntry, keySegment}
+use Rattle.rules.specs.Split.{splitting}
+use Rattle.rules.specs.Put.{putTests, keyChoice, unused, put}
+use Rattle.rules.specs.Step.{changed, step}
+use Rattle.rules.proofs.Keys.{index-shift}
+use Rattle.rules.proofs.Split.{Splittable, unused-falls}
+use Rattle.rules.proofs.Range.{hit-slot, usable-slot}
+use Rattle.rules.proofs.Put.{put-refused, put-found, put-into, put-too-deep, put-no-segment, put-again, put-splittable, choice-found, choice-into, free-below}
+use Rattle.directory.specs.declared.header.Header.{Header}
+use Rattle.directory.specs.declared.entry.Entry.{Entry}
+use Rattle.directory.specs.declared.entry.Entry.the-variants.{At, Broken}
+use Rattle.directory.specs.declared.free.Free.{Free}
+use Rattle.directory.specs.declared.free.Free.the-variants.{Segment, Nothing}
+use Rattle.directory.specs.Headers.{Describes}
+use Rattle.directory.specs.Entries.{entrySaid, entryOf}
+use Rattle.directory.specs.Frees.{freeOf}
+use Rattle.directory.proofs.Shapes.{bounds}
+use Rattle.segment.specs.declared.choice.Choice.{Choice}
+use Rattle.segment.specs.declared.choice.Choice.the-variants.{Found, Into, Full}
+use Rattle.segment.specs.Answers.{choiceOf}
+use Rattle.index.specs.declared.check.Checked.{Checked}
+use Rattle.index.specs.declared.check.Checked.the-variants.{Passed as PassedCheck}
+use Rattle.index.specs.Answered.{Answered}
+use Rattle.index.specs.Checked.{CheckedBy}
+use Rattle.index.specs.Slots.{valuePut, recordPut}
+use Rattle.index.specs.Splits.{SplitAt}
+use Rattle.index.proofs.Answers.{answered-only}
+use Rattle.index.proofs.Checks.{check-passed, passed-range}
+use Rattle.index.proofs.Places.{Located, SegmentAt, located, out-of-range, segment-at}
+
+-- ---- Stores at a slot
+
+module _ (base slot w allowed due : ℕ) (a : List ℕ) (due′ : ℕ) (b : List ℕ) where
+  pub value-stored : Executed (store (base + 2 * slot + 1) w ∷ []) allowed due a due′ b
+      → Executed (store (valueAddress base slot) w ∷ []) allowed due a due′ b
+  value-stored e = let q : base + 2 * slot + 1 ≡ valueAddress base slot = omega arith in rw q at e
+
+-- ---- A plan behind stores
+
+module _ (n : ℕ) (ss : List Store) (p : Plan Said) (a : List ℕ) where
+  leb-sub : (l d : ℕ) → l ≤ n → leb (l + d) n ≡ leb d (n - l)
+  leb-sub l d h =
+      same-test (leb (l + d) n) (leb d (n - l))
+      (λ t. le-leb d (n - l) (omega (arith, leb-true (l + d) n t)))
+      (λ t. le-leb (l + d) n (omega (arith, leb-true d (n - l) t)))
+
+  min-sub : (l d : ℕ) → l ≤ n → min n (l + d) ≡ l + min (n - l) d
+  min-sub l d h = omega arith
+
+  -- Where the stores are allowed, the rest has what is left of the allowance.
+  pub changed-then : length ss ≤ n
+      → changed n (ss then p) a
+      ≡ record {
+        reply = changed (n - length ss) p (apply ss a) .reply;
+        made = length ss + changed (n - length ss) p (apply ss a) .made;
+        after = changed (n - length ss) p (apply ss a) .after;
+      }
+  unfolding changed cut
+  changed-then h =
+      rw (length-append ss (p .due), leb-sub (length ss) (length (p .due)) h, min-sub (length ss) (length (p .due)) h, exec-append ss (p .due) n a, exec-all ss n a h)
+
+  -- Where they are not, the call is cut off among them.
+  pub changed-then-cut : n < length ss → changed n (ss then p) a ≡ record { reply = refuse CutOff; made = n; after = exec ss n a }
+  unfolding changed cut
+  changed-then-cut h =
+      let none-left : n - length ss ≡ 0 = omega arith in
+      let few : min n (length ss + length (p .due)) ≡ n = min-eq-left (omega arith) in
+      rw (length-append ss (p .due), lt-leb (length ss + length (p .due)) n (omega arith), few, exec-append ss (p .due) n a, none-left)
+      (rw (exec-not-made (p .due) 0 (exec ss n a) refl))
+
+-- ---- What the code has read
+
+-- The tests have passed, and the header is what word 0 says.
+pub record Tested (h : Header) (a : List ℕ) (key : ℕ) : Type 0 where
+  pub tests-passed : putTests a key ≡ none
+  pub header-read : Describes h a
+
+-- And the key's entry names segment s with local depth L.
+pub record KeyPlace (h : Header) (a : List ℕ) (key s L : ℕ) : Type 0 where
+  pub tests-passed : putTests a key ≡ none
+  pub header-read : Describes h a
+  pub entry : Located h a key s L
+
+-- And the window is full, and there are a depth and a segment for a split.
+pub record MustSplit (h : Header) (a : List ℕ) (key s L n : ℕ) : Type 0 where
+  pub place : KeyPlace h a key s L
+  pub window-full : keyChoice a key ≡ full
+  pub room : localDepth (keyEntry a key) < maxDepth a
+  pub free : freeSegment a ≡ some n
+
+pub tested : (a : List ℕ) (key : ℕ) (r : Checked) → CheckedBy r a (putTests a key) → {h : Header} → r ≡ PassedCheck h → Tested h a key
+tested a key r k {h} e =
+    let t = check-passed r a (putTests a key) k h e in
+    record { tests-passed = t .0; header-read = t .1 }
+
+module _ {h : Header} {a : List ℕ} {key : ℕ} (k : Tested h a key) (i : ℕ) (e : i ≡ index key (h .depth))
+    (x : Entry) (said : entrySaid x ≡ entryOf (depth a) (segments a) (entryAt a (depth a) i)) where
+  pub entry-not-broken : x ≡ Broken → ⊥
+  entry-not-broken q =
+      let inside : inRange (depth a) (segments a) (keyEntry a key) ≡ true = passed-range a key (k .tests-passed) in
+      let outside : inRange (depth a) (segments a) (keyEntry a key) ≡ false = out-of-range (k .header-read) key i e x said q in
+      false≢true (sym outside ∙ inside)
+
+  pub key-place : {s L : ℕ} → x ≡ At s L → KeyPlace h a key s L
+  key-place {s} {L} q =
+      record { tests-passed = k .tests-passed; header-read = k .header-read; entry = located (k .header-read) key i e x said s L q }
+
+module _ {h : Header} {a : List ℕ} {key s L : ℕ} (p : KeyPlace h a key s L) where
+  pub local-small : L ≤ 12
+  local-small = let b = bounds (p .header-read) in let l = p .entry .depth-low in omega arith
+
+  module _ (base : ℕ) (b : base ≡ segmentAddress (h .«max_depth») s) where
+    stands : SegmentAt a key base
+    stands = segment-at (p .header-read) (p .entry) base b
+
+    pub place-fits : base + 128 ≤ length a
+    place-fits = stands .whole
+
+    module _ (x : Choice) (c : choiceOf x ≡ choose a base L (index key L) key) where
+      key-choice : choiceOf x ≡ keyChoice a key
+      unfolding keyChoice
+      key-choice =
+          rw (stands .base-is, p .entry .depth-is, index-shift key (depth a) L (rw (p .header-read .depth-read) (p .entry .depth-low))) c
+
+      pub choice-full-read : x ≡ Full → keyChoice a key ≡ full
+      choice-full-read q = sym (rw q at key-choice)
+
+      choice-found-read : {j : ℕ} → x ≡ Found j → keyChoice a key ≡ found j
+      choice-found-read q = sym (rw q at key-choice)
+
+      choice-into-read : {j : ℕ} → x ≡ Into j → keyChoice a key ≡ into j
+      choice-into-read q = sym (rw q at key-choice)
+
+      pub found-slot : {j : ℕ} → x ≡ Found j → j < 64
+      found-slot {j} q = hit-slot a (keySegment a key) key j (choice-found a key j (choice-found-read q))
+
+      pub into-slot : {j : ℕ} → x ≡ Into j → j < 64
+      into-slot {j} q = usable-slot a (keySegment a key) _ _ key j (choice-into a key j (choice-into-read q) .1)
+
+      module _ (value allowance : ℕ) (r : Answer) (after : List ℕ) where
+        pub answers-found : {j : ℕ} → x ≡ Found j → Answered (changed allowance (valuePut base value j) a) r after
+            → Answered (step a 0 (Put key value allowance)) r after
+        unfolding step
+        answers-found {j} q m = rw (put-found a key value (p .tests-passed) j (choice-found-read q), stands .base-is) m
+
+        pub answers-into : {j : ℕ} → x ≡ Into j → Answered (changed allowance (recordPut base key value j) a) r after
+            → Answered (step a 0 (Put key value allowance)) r after
+        unfolding step
+        answers-into {j} q m = rw (put-into a key value (p .tests-passed) j (choice-into-read q), stands .base-is) m
+
+-- ---- Refusals
+
+pub answers-refused : (a : List ℕ) (key value allowance : ℕ) (q : Refusal) (r : Answer) → putTests a key ≡ some q
+    → (r .reply ≡ RefusedReply q) × (r .stores ≡ 0) → Answered (step a 0 (Put key value allowance)) r a
+unfolding step
+answers-refused a key value allowance q r t e =
+    rw (put-refused a key value q t) (answered-only allowance (refuse q) a r (ap saidBy (e .0)) (e .1))
+
+module _ {h : Header} {a : List ℕ} {key s L : ℕ} (p : KeyPlace h a key s L) (full-window : keyChoice a key ≡ full) where
+  pub answers-too-deep : (value allowance : ℕ) → L ≡ h .«max_depth» → (r : Answer) → (r .reply ≡ RefusedReply TooDeep) × (r .stores ≡ 0)
+      → Answered (step a 0 (Put key value allowance)) r a
+  unfolding step
+  answers-too-deep value allowance d r e =
+      let deep : localDepth (keyEntry a key) ≡ maxDepth a = p .entry .depth-is ∙ d ∙ sym (p .header-read .max-depth-read) in
+      rw (put-too-deep a key value (p .tests-passed) full-window deep)
+      (answered-only allowance (refuse TooDeep) a r (ap saidBy (e .0)) (e .1))
+
+  module _ (not-deep : L ≡ h .«max_depth» → ⊥) where
+    room : localDepth (keyEntry a key) < maxDepth a
+    room =
+        let b = bounds (p .header-read) in
+        let l = p .entry .depth-low in
+        let less : L < h .«max_depth» = omega (arith, not-deep) in
+        rw (p .entry .depth-is, p .header-read .max-depth-read) less
+
+    module _ {x : Free} (f : freeOf x ≡ freeSegment a) where
+      pub answers-no-segment : (value allowance : ℕ) → x ≡ Nothing → (r : Answer) → (r .reply ≡ RefusedReply NoSegment) × (r .stores ≡ 0)
+          → Answered (step a 0 (Put key value allowance)) r a
+      unfolding step
+      answers-no-segment value allowance q r e =
+          rw (put-no-segment a key value (p .tests-passed) full-window room (sym (rw q at f)))
+          (answered-only allowance (refuse NoSegment) a r (ap saidBy (e .0)) (e .1))
+
+      pub must-split : {n : ℕ} → x ≡ Segment n → MustSplit h a key s L n
+      must-split q = record { place = p; window-full = full-window; room = room; free = sym (rw q at f) }
+
+-- ---- A split, and the put behind it
+
+module _ {h : Header} {a : List ℕ} {key s L n : ℕ} (m : MustSplit h a key s L n) where
+  pub can-split : SplitAt h a key s L n
+  can-split =
+      let d = m .place .header-read in
+      record {
+        header-read = d;
+        segment-is = m .place .entry .segment-is;
+        depth-is = m .place .entry .depth-is;
+        local-low = m .place .entry .depth-low;
+        local-room = rw (m .place .entry .depth-is, d .max-depth-read) at (m .room);
+        segment-below = m .place .entry .segment-below;
+        new-below = rw (d .segments-read) at (free-below a n (m .free) .0);
+      }
+
+  module _ (value : ℕ) {allowance due : ℕ} {b : List ℕ} (made : Executed (splitting a key n) allowance 0 a due b) where
+    plan : put a key value ≡ splitting a key n then put (apply (splitting a key n) a) key value
+    plan = put-again a key value (m .place .tests-passed) (m .window-full) (m .room) n (m .free)
+
+    due-length : due ≡ length (splitting a key n)
+    due-length = made .count ∙ zero-add (length (splitting a key n))
+
+    pub answers-cut : allowance < due → Answered (step a 0 (Put key value allowance)) (record { reply = RefusedReply CutOff; stores = allowance }) b
+    unfolding step
+    answers-cut l =
+        rw (plan, changed-then-cut allowance (splitting a key n) (put (apply (splitting a key n) a) key value) a (rw due-length at l))
+        (record { reply = refl; stores = refl; words = made .words ∙ rw (sub-zero allowance) })
+
+    module _ (whole : due ≤ allowance) where
+      split-whole : b ≡ apply (splitting a key n) a
+      split-whole = made .words ∙ exec-all (splitting a key n) (allowance - 0) a (omega (arith, due-length))
+
+      pub put-falls : unused b key < unused a key
+      unfolding unused
+      put-falls =
+          let u : ℕ = maxDepth a - suc (localDepth (keyEntry a key)) in
+          let here : unused a key ≡ suc u = let l = m .room in omega arith in
+          let can : Splittable a key n = put-splittable a key value (m .place .tests-passed) (m .window-full) (m .room) n (m .free) in
+          let behind : unused b key ≡ u = rw split-whole (unused-falls a key n can u here) in
+          omega arith
+
+      module _ {rest : Answer} {after : List ℕ} (again : Answered (step b 0 (Put key value (allowance - due))) rest after) where
+        pub rest-allowed : rest .stores ≤ allowance - due
+        unfolding step changed
+        rest-allowed = rw (again .stores) (made-allowed (refuse CutOff) (allowance - due) (put b key value) b)
+
+        pub answers-again : Answered (step a 0 (Put key value allowance)) (record { reply = rest .reply; stores = due + rest .stores }) after
+        unfolding step
+        answers-again =
+            let o = rw (split-whole, due-length) at again in
+            rw (plan, changed-then allowance (splitting a key n) (put (apply (splitting a key n) a) key value) a (rw due-length at whole))
+            (record {
+              reply = o .reply;
+              stores = rw due-length (ap (λ (k : ℕ). length (splitting a key n) + k) (o .stores));
+              words = o .words;
+            })

@@ -1,0 +1,66 @@
+-- `index::empty::store_empty` meets its contract.
+-- Assumes nothing.
+use borrow.Author.Needs.{needs}
+use native.Mathlib.Omega.{arith}
+use Prim.Native.Nat.{_+_, _*_}
+use Rattle.stores.specs.Store.{store}
+use Rattle.stores.proofs.Lists.{length-each-ones}
+use Rattle.directory.proofs.Shapes.{shape}
+use Rattle.directory.proofs.Loops.{executed-length}
+use Rattle.index.proofs.Places.{first-segment-fits}
+use Rattle.index.proofs.Calls.{format-stores}
+use Rattle.index.proofs.empty.store_empty.Statement.{statement}
+use Rattle.index.proofs.empty.store_empty.Tie as tie
+
+store-word-requires : tie.Need-store-word-requires
+store-word-requires c κs = let f = first-segment-fits _ _ _ (c .before .before .pre .0) (c .before .before .pre .1) in (omega arith, search needs)
+
+store-word-requires-2 : tie.Need-store-word-requires-2
+store-word-requires-2 c κs =
+    let f = first-segment-fits _ _ _ (c .before .before .before .before .before .before .pre .0) (c .before .before .before .before .before .before .pre .1) in
+    let e = c .before .before .before .store-word .ensures in
+    (omega (arith, executed-length e), omega (arith, e .count))
+
+segment-base-requires : tie.Need-segment-base-requires
+segment-base-requires c κs = let s = shape _ _ (c .before .before .before .before .before .before .before .before .before .pre .0) in (omega arith, omega arith)
+
+clear-keys-requires : tie.Need-clear-keys-requires
+clear-keys-requires c κs =
+    let f = first-segment-fits _ _ _ (c .before .before .before .before .before .before .before .before .before .before .before .pre .0) (c .before .before .before .before .before .before .before .before .before .before .before .pre .1) in
+    let e = c .before .before .before .before .before .before .before .before .store-word .ensures in
+    let k = c .before .before .before .before .store-word2 .ensures in
+    (rw (c .before .segment-base .ensures) (omega (arith, executed-length e, executed-length k)), omega (arith, e .count, k .count))
+
+pack-header-requires : tie.Need-pack-header-requires
+pack-header-requires c κs = let s = shape _ _ (c .before .before .before .before .before .before .before .before .before .before .before .before .before .before .pre .0) in (omega arith, omega arith, omega arith)
+
+store-word-requires-3 : tie.Need-store-word-requires-3
+store-word-requires-3 c κs =
+    let f = first-segment-fits _ _ _ (c .before .before .before .before .before .before .before .before .before .before .before .before .before .before .before .before .pre .0) (c .before .before .before .before .before .before .before .before .before .before .before .before .before .before .before .before .pre .1) in
+    let e = c .before .before .before .before .before .before .before .before .before .before .before .before .before .store-word .ensures in
+    let k = c .before .before .before .before .before .before .before .before .before .store-word2 .ensures in
+    let l = c .before .before .before .before .clear-keys .ensures in (
+      omega (arith, executed-length e, executed-length k, executed-length l),
+      omega (arith, e .count, k .count, l .count, length-each-ones (λ j. store (c .before .before .before .before .before .before .segment-base .result + 2 * j) 0) 64),
+    )
+
+same-length : tie.Need-same-length
+same-length c = search needs
+
+returns : tie.Need-returns
+returns c =
+    format-stores _ _ _ _ _ _ _ _ _ _ _ _ _ _ (c .before .before .before .before .before .before .before .before .before .segment-base .ensures) (c .before .before .before .before .pack-header .ensures) (c .before .before .before .before .before .before .before .before .before .before .before .before .before .before .before .before .store-word .ensures)
+    (c .before .before .before .before .before .before .before .before .before .before .before .before .store-word2 .ensures) (c .before .before .before .before .before .before .before .clear-keys .ensures) (c .before .before .store-word3 .ensures)
+
+pub store-empty-spec : {M : Type 1} → statement M
+store-empty-spec =
+    tie.close
+    (tie.spec
+    store-word-requires
+    store-word-requires-2
+    segment-base-requires
+    clear-keys-requires
+    pack-header-requires
+    store-word-requires-3
+    same-length
+    returns)

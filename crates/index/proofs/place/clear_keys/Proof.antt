@@ -1,0 +1,81 @@
+-- `index::place::clear_keys` meets its contract.
+-- Assumes nothing.
+use borrow.Author.Needs.{needs}
+use native.Mathlib.Omega.{arith}
+use mathlib.Core.Path.{_≡_, _∙_}
+use mathlib.Core.List.{List, [], _∷_}
+use Prim.Native.Nat.{ℕ, _+_, _-_, _≤_}
+use lib.ListN.{length}
+use Rattle.stores.specs.Lists.{each}
+use Rattle.stores.specs.Store.{Store, store}
+use Rattle.stores.specs.Executed.{Executed}
+use Rattle.rules.specs.Layout.{keyAddress}
+use Rattle.directory.proofs.Loops.{before-loop, after-turn, executed-length}
+use Rattle.index.proofs.place.clear_keys.Statement.{statement}
+use Rattle.index.proofs.place.clear_keys.Tie as tie
+
+-- The store for one slot.
+abbrev cleared : (base j : ℕ) → List Store
+cleared base j = store (keyAddress base j) 0 ∷ []
+
+abbrev Inv-loop : tie.InvT-loop
+Inv-loop words₀ base allowed due total₀ slot₀ words total slot =
+    (slot ≤ 64)
+    × (total ≡ due + slot)
+    × (length words ≡ length words₀)
+    × Executed (each (cleared base) slot) allowed due words₀ total words
+
+abbrev μ-loop : tie.MeasureT-loop
+μ-loop words₀ base allowed due total₀ slot₀ words total slot = 64 - slot
+
+loop-holds : tie.Need-loop-holds Inv-loop μ-loop
+loop-holds c = (omega arith, omega arith, search needs, before-loop (cleared (c .before .args .base)) _ _ _)
+
+mul-store-word : tie.Need-mul-store-word Inv-loop μ-loop
+mul-store-word c = search needs
+
+add-store-word : tie.Need-add-store-word Inv-loop μ-loop
+add-store-word c = search needs
+
+store-word-requires : tie.Need-store-word-requires Inv-loop μ-loop
+store-word-requires c κs = search needs
+
+add-slot : tie.Need-add-slot Inv-loop μ-loop
+add-slot c = search needs
+
+loop-less : tie.Need-loop-less Inv-loop μ-loop
+loop-less c = search needs
+
+loop-again : tie.Need-loop-again Inv-loop μ-loop
+loop-again c =
+    let i = c .before .before .before .before .before .loop .inv in
+    let p = c .before .before .store-word .ensures in (
+      omega (arith, c .before .before .before .before),
+      omega (arith, p .count, i .1),
+      executed-length p ∙ i .2,
+      after-turn (cleared (c .before .before .before .before .before .before .before .args .base)) _ _ _ _ _ _ _ _ (i .3) p,
+    )
+
+same-length : tie.Need-same-length Inv-loop μ-loop
+same-length c = search needs
+
+returns : tie.Need-returns Inv-loop μ-loop
+returns c =
+    let all : c .before .loop .slot ≡ 64 = omega arith in
+    rw all at (c .before .loop .inv .3)
+
+pub clear-keys-spec : {M : Type 1} → statement M
+clear-keys-spec =
+    tie.close
+    (tie.spec
+    Inv-loop
+    μ-loop
+    loop-holds
+    mul-store-word
+    add-store-word
+    store-word-requires
+    add-slot
+    loop-less
+    loop-again
+    same-length
+    returns)

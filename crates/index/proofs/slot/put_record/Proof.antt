@@ -1,0 +1,48 @@
+-- `index::slot::put_record` meets its contract.
+-- Assumes nothing.
+use borrow.Author.Needs.{needs}
+use Rattle.stores.proofs.Stores.{executed-append}
+use Rattle.index.proofs.Answers.{answered-stores}
+use Rattle.index.proofs.Puts.{value-stored}
+use Rattle.index.proofs.slot.put_record.Statement.{statement}
+use Rattle.index.proofs.slot.put_record.Tie as tie
+
+mul-key-at : tie.Need-mul-key-at
+mul-key-at c = search needs
+
+add-key-at : tie.Need-add-key-at
+add-key-at c = search needs
+
+add-value-at : tie.Need-add-value-at
+add-value-at c = search needs
+
+store-word-requires : tie.Need-store-word-requires
+store-word-requires c κs = search needs
+
+store-word-requires-2 : tie.Need-store-word-requires-2
+store-word-requires-2 c κs = search needs
+
+after-stores-requires : tie.Need-after-stores-requires
+after-stores-requires c κs = search needs
+
+same-length : tie.Need-same-length
+same-length c = search needs
+
+returns : tie.Need-returns
+returns c =
+    let first = value-stored _ _ _ _ _ _ _ _ (c .before .before .before .before .before .before .before .store-word .ensures) in
+    answered-stores _ _ _ _ _ _ (executed-append _ _ _ _ _ _ _ _ _ first (c .before .before .before .store-word2 .ensures))
+    (c .after-stores .ensures)
+
+pub put-record-spec : {M : Type 1} → statement M
+put-record-spec =
+    tie.close
+    (tie.spec
+    mul-key-at
+    add-key-at
+    add-value-at
+    store-word-requires
+    store-word-requires-2
+    after-stores-requires
+    same-length
+    returns)

@@ -1,0 +1,41 @@
+-- `index::slot::put_value` meets its contract.
+-- Assumes nothing.
+use borrow.Author.Needs.{needs}
+use Rattle.index.proofs.Answers.{answered-stores}
+use Rattle.index.proofs.Puts.{value-stored}
+use Rattle.index.proofs.slot.put_value.Statement.{statement}
+use Rattle.index.proofs.slot.put_value.Tie as tie
+
+mul-value-at : tie.Need-mul-value-at
+mul-value-at c = search needs
+
+add-value-at : tie.Need-add-value-at
+add-value-at c = search needs
+
+add-value-at-2 : tie.Need-add-value-at-2
+add-value-at-2 c = search needs
+
+store-word-requires : tie.Need-store-word-requires
+store-word-requires c κs = search needs
+
+after-stores-requires : tie.Need-after-stores-requires
+after-stores-requires c κs = search needs
+
+same-length : tie.Need-same-length
+same-length c = search needs
+
+returns : tie.Need-returns
+returns c =
+    answered-stores _ _ _ _ _ _ (value-stored _ _ _ _ _ _ _ _ (c .before .before .before .store-word .ensures)) (c .after-stores .ensures)
+
+pub put-value-spec : {M : Type 1} → statement M
+put-value-spec =
+    tie.close
+    (tie.spec
+    mul-value-at
+    add-value-at
+    add-value-at-2
+    store-word-requires
+    after-stores-requires
+    same-length
+    returns)

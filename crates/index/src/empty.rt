@@ -1,0 +1,26 @@
+// The stores of a format.
+use crate::place::clear_keys;
+use crate::place::segment_base;
+use directory::header::pack_header;
+use stores::store_word;
+ghost use mathlib.Core.Path.{_≡_};
+ghost use mathlib.Core.Bool.{true};
+ghost use Prim.Native.Nat.{_≤_};
+ghost use lib.ListN.{length};
+ghost use Rattle.stores.specs.Executed.{Executed};
+ghost use Rattle.rules.specs.Layout.{validShape, wordsFor};
+ghost use Rattle.rules.specs.Format.{formatStores};
+
+// Makes an empty index of this shape. Word 0 is not valid before the last store, so a cut leaves no
+// index.
+pub(crate) fn store_empty(words: &mut [u64], max_depth: u32, segments: u32, allowed: u32) -> u32
+    requires { ⌜ (validShape «max_depth» segments ≡ true) × (wordsFor «max_depth» segments ≤ length (now words)) ⌝ }
+    ensures { λ r. ⌜ Executed (formatStores «max_depth» segments) allowed 0 (now (words .entry)) r (now (words .exit)) ⌝ }
+{
+    let due = store_word(words, 0, 0, allowed, 0);
+    let due = store_word(words, 1, 0, allowed, due);
+    let base = segment_base(max_depth, 0);
+    let due = clear_keys(words, base, allowed, due);
+    let word = pack_header(0, max_depth, segments);
+    store_word(words, 0, word, allowed, due)
+}

@@ -1,0 +1,197 @@
+// The calls of document 01: format, get, put, remove, mend, list. Every array, also the empty one, and
+// every argument gets an answer; none has a requirement.
+mod answer;
+mod check;
+mod empty;
+mod listing;
+mod place;
+mod slot;
+mod split;
+
+use answer::after_stores;
+use answer::without_store;
+use check::Checked;
+use check::check_change;
+use directory::entry::Entry;
+use directory::entry::directory_index;
+use directory::entry::read_entry;
+use directory::free::Free;
+use directory::free::free_segment;
+use directory::header::HeaderRead;
+use directory::header::read_header;
+use directory::header::valid_shape;
+use directory::header::words_for;
+use directory::mend::mend_entries;
+use directory::scan::Verdict;
+use directory::scan::scan;
+use empty::store_empty;
+use listing::count_records;
+use listing::write_records;
+use place::find_at;
+use place::segment_base;
+use rules::Answer;
+use rules::Call;
+use rules::Refusal;
+use rules::Reply;
+use segment::choice::Choice;
+use segment::probe::Hit;
+use slot::choose_at;
+use slot::put_record;
+use slot::put_value;
+use split::split;
+use stores::store_word;
+ghost use Rattle.rules.specs.declared.Call.the-variants.{Format, Get, Put, Remove, Mend, List as ListCall};
+ghost use Rattle.rules.specs.Step.{step, Performed};
+ghost use Rattle.index.specs.Answered.{Answered};
+
+// Format: an empty index of largest depth `depth` (document 01: D) with `segments` segments (S).
+pub fn format(words: &mut [u64], depth: u64, segments: u64, allowance: u32) -> Answer
+    ensures { λ r. ⌜ Answered (step (now (words .entry)) 0 (Format depth segments allowance)) r (now (words .exit)) ⌝ }
+{
+    if !valid_shape(depth, segments) {
+        return without_store(Reply::Refused(Refusal::BadShape));
+    }
+    if words.len() < words_for(depth, segments) {
+        return without_store(Reply::Refused(Refusal::TooShort));
+    }
+    let due = store_empty(words, depth as u32, segments as u32, allowance);
+    after_stores(Reply::Done, allowance, due)
+}
+
+// Get: the value of the key, or absent. It reads word 0, the key's entry and the probe window alone.
+pub fn get(words: &[u64], key: u64) -> Answer
+    ensures { λ r. ⌜ Answered (step (now (words .entry)) 0 (Get key)) r (now (words .entry)) ⌝ }
+{
+    let HeaderRead::Valid(header) = read_header(words) else {
+        return without_store(Reply::Refused(Refusal::NoStore));
+    };
+    if key == 0 {
+        return without_store(Reply::Refused(Refusal::NoKey));
+    }
+    let i = directory_index(key, header.depth);
+    let Entry::At { segment, depth: _ } = read_entry(words, header, i) else {
+        return without_store(Reply::Refused(Refusal::Broken));
+    };
+    let base = segment_base(header.max_depth, segment);
+    let Hit::At(slot) = find_at(words, base, key) else {
+        return without_store(Reply::Absent);
+    };
+    without_store(Reply::Value(words[base + 2 * slot + 1]))
+}
+
+// Put: the value at the first hit; else value and key into a usable slot; else a split, and the put
+// begins again with the allowance that is left. The depth still unused falls by one each time.
+pub fn put(words: &mut [u64], key: u64, value: u64, allowance: u32) -> Answer
+    ensures { λ r. ⌜ Answered (step (now (words .entry)) 0 (Put key value allowance)) r (now (words .exit)) ⌝ }
+{
+    let header = match check_change(words, key) {
+        Checked::Passed(header) => header,
+        Checked::Refused(refusal) => return without_store(Reply::Refused(refusal)),
+    };
+    let i = directory_index(key, header.depth);
+    let Entry::At { segment, depth } = read_entry(words, header, i) else {
+        return without_store(Reply::Refused(Refusal::Broken));
+    };
+    let base = segment_base(header.max_depth, segment);
+    match choose_at(words, base, depth, key) {
+        Choice::Found(slot) => return put_value(words, base, slot, value, allowance),
+        Choice::Into(slot) => return put_record(words, base, slot, key, value, allowance),
+        Choice::Full => {}
+    }
+    if depth == header.max_depth {
+        return without_store(Reply::Refused(Refusal::TooDeep));
+    }
+    let Free::Segment(new_segment) = free_segment(words, header) else {
+        return without_store(Reply::Refused(Refusal::NoSegment));
+    };
+    let due = split(words, header, key, segment, depth, new_segment, allowance);
+    if allowance < due {
+        return Answer {
+            reply: Reply::Refused(Refusal::CutOff),
+            stores: allowance,
+        };
+    }
+    let left = allowance - due;
+    let rest = put(words, key, value, left);
+    let reply = rest.reply;
+    let stores = due + rest.stores;
+    Answer { reply, stores }
+}
+
+// Remove: the key word at the first hit is cleared; or the key is absent.
+pub fn remove(words: &mut [u64], key: u64, allowance: u32) -> Answer
+    ensures { λ r. ⌜ Answered (step (now (words .entry)) 0 (Remove key allowance)) r (now (words .exit)) ⌝ }
+{
+    let header = match check_change(words, key) {
+        Checked::Passed(header) => header,
+        Checked::Refused(refusal) => return without_store(Reply::Refused(refusal)),
+    };
+    let i = directory_index(key, header.depth);
+    let Entry::At { segment, depth: _ } = read_entry(words, header, i) else {
+        return without_store(Reply::Refused(Refusal::Broken));
+    };
+    let base = segment_base(header.max_depth, segment);
+    let Hit::At(slot) = find_at(words, base, key) else {
+        return without_store(Reply::Absent);
+    };
+    let due = store_word(words, base + 2 * slot, 0, allowance, 0);
+    after_stores(Reply::Done, allowance, due)
+}
+
+// Mend: each entry that differs from its block's leader gets the leader's word, from left to right.
+pub fn mend(words: &mut [u64], allowance: u32) -> Answer
+    ensures { λ r. ⌜ Answered (step (now (words .entry)) 0 (Mend allowance)) r (now (words .exit)) ⌝ }
+{
+    let HeaderRead::Valid(header) = read_header(words) else {
+        return without_store(Reply::Refused(Refusal::NoStore));
+    };
+    if let Verdict::Broken = scan(words, header) {
+        return without_store(Reply::Refused(Refusal::Broken));
+    }
+    let due = mend_entries(words, header, allowance, 0);
+    after_stores(Reply::Done, allowance, due)
+}
+
+// List: every live record into the list array, each as key, then value; words behind them stay. The
+// order of the records is this program's choice: what is written is some rearrangement of document
+// 01's records, and every choice holds the same records.
+pub fn list(words: &[u64], list: &mut [u64]) -> Answer
+    ensures { λ r. ⌜ Performed ListCall (now (words .entry)) (now (list .entry)) r (now (words .entry)) (now (list .exit)) ⌝ }
+{
+    let HeaderRead::Valid(header) = read_header(words) else {
+        return without_store(Reply::Refused(Refusal::NoStore));
+    };
+    match scan(words, header) {
+        Verdict::Broken => return without_store(Reply::Refused(Refusal::Broken)),
+        Verdict::Unmended => return without_store(Reply::Refused(Refusal::Unmended)),
+        Verdict::Consistent => {}
+    }
+    let count = count_records(words, header);
+    if list.len() < 2 * count {
+        return without_store(Reply::Refused(Refusal::ShortList));
+    }
+    write_records(words, header, list);
+    without_store(Reply::Value(count as u64))
+}
+
+// One call given as data, on the index array and the list array. Only a list touches the list array.
+pub fn perform(words: &mut [u64], list: &mut [u64], call: Call) -> Answer
+    ensures { λ r. ⌜ Performed call (now (words .entry)) (now (list .entry)) r (now (words .exit)) (now (list .exit)) ⌝ }
+{
+    match call {
+        Call::Format {
+            depth,
+            segments,
+            allowance,
+        } => format(words, depth, segments, allowance),
+        Call::Get { key } => get(words, key),
+        Call::Put {
+            key,
+            value,
+            allowance,
+        } => put(words, key, value, allowance),
+        Call::Remove { key, allowance } => remove(words, key, allowance),
+        Call::Mend { allowance } => mend(words, allowance),
+        Call::List => crate::list(words, list),
+    }
+}
