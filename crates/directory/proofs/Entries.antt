@@ -1,6 +1,6 @@
 -- What the reader of an entry is to say, and where the entries of the present directory stand.
 -- Assumes nothing.
-use mathlib.Core.Path.{_≡_, ap, sym, _∙_}
+use mathlib.Core.Path.{_≡_, ap, _∙_}
 use mathlib.Core.Bool.{true, false}
 use mathlib.Core.List.{List, [], _∷_}
 use Prim.Native.Nat.{ℕ, suc, _+_, _-_, _*_, _/_, _%_, _^_, _≤_}
@@ -10,7 +10,7 @@ use lib.Bits.{bitAnd, and-mask}
 use Rattle.stores.specs.Store.{word}
 use Rattle.rules.specs.declared.Refusal.the-variants.{Broken}
 use Rattle.rules.specs.Layout.{depth, entryAddress, entryAt, segmentOf, localDepth}
-use Rattle.rules.specs.Keys.{width, blockBits, blockStart}
+use Rattle.rules.specs.Keys.{width, blockStart}
 use Rattle.rules.specs.Scan.{inRange}
 use Rattle.rules.proofs.Keys.{width-pow, blockStart-bits, blockBits-shift}
 use Rattle.rules.specs.Replies.{done, refuse}

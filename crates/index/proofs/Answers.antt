@@ -1,23 +1,23 @@
 -- From the code's answer to document 01's outcome: with stores under an allowance, and with none.
 -- Assumes nothing.
-use mathlib.Core.Path.{_≡_, refl, sym, ap, _∙_}
-use mathlib.Core.List.{List, []}
+use mathlib.Core.Path.{_≡_, _∙_}
+use mathlib.Core.List.{List}
 use mathlib.Core.Option.{Option, some}
-use Prim.Native.Nat.{ℕ, _+_, _-_, min}
+use Prim.Native.Nat.{ℕ, min}
 use native.Mathlib.Nat.{sub-zero, zero-add, min-zero}
 use native.Mathlib.Omega.{arith}
 use borrow.Author.Tests.{le-leb}
 use lib.Dec.{leb}
 use lib.ListN.{length}
 use Rattle.stores.specs.Lists.{pick}
-use Rattle.stores.specs.Store.{Store, exec, apply}
-use Rattle.stores.specs.Plan.{Plan, Outcome, reply-only, cut}
+use Rattle.stores.specs.Store.{exec, apply}
+use Rattle.stores.specs.Plan.{Plan, reply-only, cut}
 use Rattle.stores.specs.Executed.{Executed}
 use Rattle.stores.proofs.Stores.{executed-none}
 use Rattle.rules.specs.declared.Refusal.{Refusal}
 use Rattle.rules.specs.declared.Answer.{Answer}
 use Rattle.rules.specs.Replies.{Said, refused, refuse, saidBy, tested}
-use Rattle.rules.specs.Step.{changed, unchanged}
+use Rattle.rules.specs.Step.{changed}
 use Rattle.index.specs.Answered.{Answered}
 
 module _ (allowed : ℕ) (p : Plan Said) (before : List ℕ) (r : Answer) where

@@ -1,22 +1,19 @@
 -- Each call's outcome, case by case, from what the code read, stored and answered.
 -- Assumes nothing.
-use mathlib.Core.Path.{_≡_, refl, sym, ap, _∙_}
-use mathlib.Core.Bool.{Bool, true, false}
+use mathlib.Core.Path.{_≡_, refl}
+use mathlib.Core.Bool.{true, false}
 use mathlib.Core.List.{List, [], _∷_}
 use mathlib.Core.Option.{none, some}
-use Prim.Native.Nat.{ℕ, _+_, _*_, _≤_, _<_, min}
-use native.Mathlib.Omega.{arith}
+use Prim.Native.Nat.{ℕ, _≤_, _<_, min}
 use borrow.Author.Tests.{le-leb, lt-leb, eq-eqb, ne-eqb}
 use lib.Dec.{leb}
 use lib.ListN.{length}
 use Rattle.stores.specs.Lists.{pick, each}
 use Rattle.stores.specs.Store.{store}
-use Rattle.stores.specs.Plan.{Plan}
 use Rattle.stores.specs.Executed.{Executed}
 use Rattle.stores.proofs.Stores.{executed-append}
 use Rattle.rules.specs.declared.Refusal.{Refusal}
-use Rattle.rules.specs.declared.Refusal.the-variants.{NoStore, NoKey, Broken, BadShape, TooShort}
-use Rattle.rules.specs.declared.Reply.the-variants.{Value, Absent, Refused}
+use Rattle.rules.specs.declared.Refusal.the-variants.{NoStore, Broken, BadShape, TooShort}
 use Rattle.rules.specs.declared.Answer.{Answer}
 use Rattle.rules.specs.declared.Call.the-variants.{Format, Get, Remove, Mend}
 use Rattle.rules.specs.Layout.{validShape, validHeader, wordsFor, header, depth, segments, segmentAddress, keyAddress, valueAt}

@@ -1,6 +1,6 @@
 -- The records of an index block by block. The indices behind a leader, inside its block, add none.
 -- Assumes nothing.
-use mathlib.Core.Path.{_≡_, refl, sym, ap, _∙_}
+use mathlib.Core.Path.{_≡_, refl, ap, _∙_}
 use mathlib.Core.Bool.{true, false}
 use mathlib.Core.List.{List, [], _∷_, _++_, Permᴰ·refl}
 use mathlib.Core.Option.{none, some}
@@ -18,8 +18,8 @@ use Rattle.rules.specs.declared.Refusal.{Refusal}
 use Rattle.rules.specs.declared.Refusal.the-variants.{NoStore, Broken, Unmended, ShortList}
 use Rattle.rules.specs.declared.Answer.{Answer}
 use Rattle.rules.specs.declared.Call.the-variants.{List as ListCall}
-use Rattle.rules.specs.Layout.{validHeader, depth, maxDepth, segments, entryAt, segmentOf, localDepth, segmentAddress}
-use Rattle.rules.specs.Keys.{index, width, blockBits}
+use Rattle.rules.specs.Layout.{validHeader, depth, segments, entryAt, segmentOf, localDepth}
+use Rattle.rules.specs.Keys.{index, width}
 use Rattle.rules.specs.Scan.{leader, leadersValid, entriesAgree}
 use Rattle.rules.specs.Replies.{done, refuse, unless, replied}
 use Rattle.rules.specs.Put.{directoryTests}
@@ -28,7 +28,7 @@ use Rattle.rules.specs.Step.{step, Performed}
 use Rattle.rules.proofs.Keys.{width-pos}
 use Rattle.rules.proofs.Scan.{led, next-leads, leader-fits, valid-at-depth, valid-at-segment, valid-at-aligned, each-one}
 use Rattle.segment.specs.Listing.{liveRecords, Written}
-use Rattle.segment.proofs.Records.{words-append, length-words, written-append}
+use Rattle.segment.proofs.Records.{words-append, written-append}
 use Rattle.directory.specs.declared.header.Header.{Header}
 use Rattle.directory.specs.Headers.{Describes}
 use Rattle.directory.proofs.Shapes.{bounds}

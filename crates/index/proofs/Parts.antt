@@ -1,9 +1,9 @@
 -- A segment lent as a part of the array, against the same segment in the whole.
 -- Assumes nothing.
-use mathlib.Core.Path.{_≡_, refl, sym, ap, ap₂, _∙_}
-use mathlib.Core.Bool.{Bool, not}
-use mathlib.Core.List.{List, [], _∷_, List·Memᴰ}
-use mathlib.Core.Option.{Option, some}
+use mathlib.Core.Path.{_≡_, ap, _∙_}
+use mathlib.Core.Bool.{not}
+use mathlib.Core.List.{List}
+use mathlib.Core.Option.{some}
 use Prim.Native.Nat.{ℕ, _+_, _-_, _*_, _≤_, _<_}
 use native.Mathlib.Nat.{zero-add}
 use native.Mathlib.Omega.{arith}
@@ -11,12 +11,12 @@ use lib.Dec.{eqb}
 use lib.ListN.{length, take, drop, length-drop}
 use lib.Seq.{length-take-le, getD-take, getD-drop}
 use Rattle.stores.specs.Store.{word}
-use Rattle.stores.specs.Lists.{pick, each}
+use Rattle.stores.specs.Lists.{each}
 use Rattle.stores.proofs.Lists.{each-same, first-same, first-some}
 use Rattle.rules.specs.Layout.{keyAt, valueAt}
 use Rattle.rules.specs.Keys.{live, window}
-use Rattle.rules.specs.Slots.{hit, usable, firstUsable, chosen, choose}
-use Rattle.rules.specs.Listing.{Record, liveRecord}
+use Rattle.rules.specs.Slots.{hit, usable, firstUsable, choose}
+use Rattle.rules.specs.Listing.{liveRecord}
 use Rattle.rules.proofs.Keys.{window-lt}
 
 -- The words of the segment at `base`, and as the code says it, by its start and its end.

@@ -1,13 +1,13 @@
 -- Where segments stand: they fit in an array with a valid word 0, and what lies in one.
 -- Assumes nothing.
-use mathlib.Core.Path.{_≡_, refl, sym, ap, _∙_}
+use mathlib.Core.Path.{_≡_, sym, _∙_}
 use mathlib.Core.Bool.{true, false}
 use mathlib.Core.List.{List}
-use Prim.Native.Nat.{ℕ, suc, _+_, _*_, _^_, _≤_, _<_}
+use Prim.Native.Nat.{ℕ, _+_, _^_, _≤_, _<_}
 use native.Mathlib.Numerals.{add-one}
 use native.Mathlib.Omega.{arith}
-use lib.ListN.{length, take, drop, set, getD, length-take, length-drop}
-use lib.Seq.{take-suc-set, take-suc, getD-drop, take-all, length-take-le}
+use lib.ListN.{length, take, drop, set, getD, length-drop}
+use lib.Seq.{take-suc-set, take-suc, getD-drop, take-all}
 use Rattle.rules.specs.Layout.{depth, maxDepth, segments, validShape, wordsFor, entryAt, segmentOf, localDepth, segmentAddress}
 use Rattle.rules.specs.Keys.{index}
 use Rattle.rules.specs.Scan.{inRange}
