@@ -154,6 +154,7 @@ fn fill_cabinet() {
     );
 }
 
+// The put with the most stores, then the cabinet.
 fn main() {
     worst_put();
     fill_cabinet();
