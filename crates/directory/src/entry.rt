@@ -35,7 +35,7 @@ pub fn local_depth_of(entry: u64) -> u32
 }
 
 // The entry of this segment and local depth.
-pub fn pack_entry(segment: usize, depth: u32) -> u64
+pub(crate) fn pack_entry(segment: usize, depth: u32) -> u64
     requires { ⌜ segment < 2 ^ 32 ⌝ }
     ensures { λ r. ⌜ r ≡ entry segment depth ⌝ }
 {
@@ -43,7 +43,7 @@ pub fn pack_entry(segment: usize, depth: u32) -> u64
 }
 
 // Takes an entry apart, in a directory of this depth with this number of segments.
-pub fn open_entry(entry: u64, depth: u32, segments: u32) -> Entry
+pub(crate) fn open_entry(entry: u64, depth: u32, segments: u32) -> Entry
     ensures { λ r. ⌜ entrySaid r ≡ entryOf depth segments entry ⌝ }
 {
     let segment = segment_of(entry);

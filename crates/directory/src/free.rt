@@ -14,7 +14,7 @@ pub enum Free {
 }
 
 // Whether some entry of the present directory names the segment.
-pub fn is_named(words: &[u64], header: Header, segment: usize) -> bool
+pub(crate) fn is_named(words: &[u64], header: Header, segment: usize) -> bool
     requires { ⌜ Describes header (now words) ⌝ }
     ensures { λ r. ⌜ r ≡ named (now (words .entry)) segment ⌝ }
 {

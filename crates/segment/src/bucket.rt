@@ -19,7 +19,7 @@ pub struct Bucket {
 }
 
 // The bucket of a segment with this number.
-pub fn bucket_at(segment: &[u64], number: usize) -> Bucket
+pub(crate) fn bucket_at(segment: &[u64], number: usize) -> Bucket
     requires { ⌜ (length (now segment) ≡ 128) × (number < 16) ⌝ }
     ensures { λ r. ⌜ r .words ≡ bucketWords (now (segment .entry)) number ⌝ }
 {
@@ -39,14 +39,14 @@ pub fn bucket_at(segment: &[u64], number: usize) -> Bucket
 }
 
 // The number of the key's bucket.
-pub fn bucket_of(key: u64) -> usize
+pub(crate) fn bucket_of(key: u64) -> usize
     ensures { λ r. ⌜ r ≡ bucket key ⌝ }
 {
     key as usize % BUCKETS
 }
 
 // The number of bucket b of the key's probe window, bucket 0 following 15.
-pub fn window_bucket(key: u64, b: usize) -> usize
+pub(crate) fn window_bucket(key: u64, b: usize) -> usize
     requires { ⌜ b < 4 ⌝ }
     ensures { λ r. ⌜ r ≡ windowBucket key b ⌝ }
 {
