@@ -27,8 +27,10 @@ use Rattle.rules.specs.Listing.{Record, liveRecord, blockRecords, records, word
 use Rattle.rules.specs.Step.{step, Performed}
 use Rattle.rules.proofs.Keys.{width-pos}
 use Rattle.rules.proofs.Scan.{led, next-leads, leader-fits, valid-at-depth, valid-at-segment, valid-at-aligned, each-one}
-use Rattle.segment.specs.Listing.{liveRecords, Written}
-use Rattle.segment.proofs.Records.{words-append, written-append}
+use Rattle.stores.specs.Written.{Written}
+use Rattle.stores.proofs.Written.{written-append}
+use Rattle.segment.specs.Listing.{liveRecords}
+use Rattle.segment.proofs.Records.{words-append}
 use Rattle.directory.specs.declared.header.Header.{Header}
 use Rattle.directory.specs.Headers.{Describes}
 use Rattle.directory.proofs.Shapes.{bounds}

@@ -17,7 +17,7 @@ ghost use Rattle.rules.specs.Layout.{depth, segments};
 ghost use Rattle.rules.specs.Scan.{leader, leadersValid};
 ghost use Rattle.rules.specs.Listing.{records, wordsOf};
 ghost use Rattle.directory.specs.Headers.{Describes};
-ghost use Rattle.segment.specs.Listing.{Written};
+ghost use Rattle.stores.specs.Written.{Written};
 ghost use Rattle.index.specs.Blocks.{BlockRead};
 
 // A block as a listing needs it: where its segment stands, its local depth, a key of the block, and

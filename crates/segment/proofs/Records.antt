@@ -1,4 +1,4 @@
--- Live records slot by slot, their words, and words written to a list one behind the other.
+-- Live records slot by slot, and their words.
 -- Assumes nothing.
 use Prim.Native.Nat.{ℕ, zero, suc, _+_, _*_, _≤_, _<_}
 use native.Mathlib.Nat.{add-zero, eq-or-lt-of-le, le-of-suc-le-suc, not-suc-le-zero}
@@ -16,7 +16,8 @@ use Rattle.rules.specs.Layout.{keyAt, valueAt}
 use Rattle.rules.specs.Keys.{live}
 use Rattle.rules.specs.Listing.{Record, liveRecord, wordsOf}
 use Rattle.segment.specs.Slot.{Holds}
-use Rattle.segment.specs.Listing.{Written}
+use Rattle.stores.specs.Written.{Written}
+use Rattle.stores.proofs.Written.{written-none, written-pair}
 
 -- ---- The live records of the first slots
 
@@ -78,33 +79,6 @@ pub length-words : (rs : List Record) → length (wordsOf rs) ≡ 2 * length rs
 unfolding wordsOf
 length-words [] = refl
 length-words (r ∷ rs) = let h : length (wordsOf rs) ≡ 2 * length rs = length-words rs in omega arith
-
--- ---- Words written to a list
-
-pub written-none : (at : ℕ) (l : List ℕ) → Written [] at l at l
-written-none at l =
-    record { behind = omega arith; list = rw (append-nil (take at l), add-zero at) (sym (take-append-drop at l)) }
-
-written-pair : (k v at : ℕ) (l : List ℕ) → at + 2 ≤ length l → Written (k ∷ v ∷ []) at l (at + 2) (set (set l at k) (at + 1) v)
-written-pair k v at l h = record { behind = refl; list = rw (add-one at) (sets-eq (k ∷ v ∷ []) l at h) }
-
--- Words behind words.
-pub written-append : (vs ws : List ℕ) (at : ℕ) (l : List ℕ) (m : ℕ) (l₁ : List ℕ) (n : ℕ) (l₂ : List ℕ) → at ≤ length l
-    → Written vs at l m l₁ → Written ws m l₁ n l₂ → Written (vs ++ ws) at l n l₂
-written-append vs ws at l m l₁ n l₂ h p q =
-    let front : List ℕ = take at l ++ vs in
-    let back : List ℕ = drop (at + length vs) l in
-    let m′ : m ≡ length front = p .behind ∙ sym (length-append (take at l) vs ∙ rw (length-take-le at l h)) in
-    let long : at + length vs + length ws ≡ at + length (vs ++ ws) = rw (length-append vs ws) (omega arith) in
-    let kept : take m l₁ ≡ front = rw (p .list) (take-at front back m (sym m′)) in
-    let left : drop (m + length ws) l₁ ≡ drop (at + length (vs ++ ws)) l =
-    rw (p .list, m′) (drop-append-add front back (length ws))
-    ∙ drop-drop (length ws) (at + length vs) l
-    ∙ ap (λ (k : ℕ). drop k l) long in
-    record {
-      behind = rw (length-append vs ws) (omega (arith, p .behind, q .behind));
-      list = q .list ∙ rw (kept, left, append-assoc (take at l) vs ws);
-    }
 
 -- A slot's record written, or not, by its key.
 module _ (a : List ℕ) (L bits j key value : ℕ) (k : Holds a j key value) (at : ℕ) (l : List ℕ) where

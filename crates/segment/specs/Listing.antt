@@ -15,9 +15,3 @@ liveRecords segment L bits = each (liveRecord segment 0 L bits) 64
 pub record Counted (segment : List ℕ) (L bits count : ℕ) : Type 0 where
   pub exact : count ≡ length (liveRecords segment L bits)
   pub small : count ≤ 64
-
--- The words have been written to the list from position `at` on, all else in it is as it was, and `next` is the position
--- behind them.
-pub record Written (words : List ℕ) (at : ℕ) (before : List ℕ) (next : ℕ) (after : List ℕ) : Type 0 where
-  pub behind : next ≡ at + length words
-  pub list : after ≡ take at before ++ words ++ drop (at + length words) before

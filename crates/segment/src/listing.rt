@@ -9,7 +9,8 @@ ghost use lib.ListN.{length};
 ghost use Rattle.rules.specs.Keys.{index, live};
 ghost use Rattle.rules.specs.Listing.{liveRecord, wordsOf};
 ghost use Rattle.segment.specs.Slot.{Holds};
-ghost use Rattle.segment.specs.Listing.{liveRecords, Counted, Written};
+ghost use Rattle.stores.specs.Written.{Written};
+ghost use Rattle.segment.specs.Listing.{liveRecords, Counted};
 
 // The number of live records of a segment of this local depth, whose block is that of `block_key`.
 pub fn count_live(segment: &[u64], local_depth: u32, block_key: u64) -> usize

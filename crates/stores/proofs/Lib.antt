@@ -5,3 +5,4 @@ pub mod Lists
 pub mod Stores
 pub mod Parts
 pub mod Plans
+pub mod Written

@@ -3,3 +3,4 @@ pub mod Lists
 pub mod Store
 pub mod Plan
 pub mod Executed
+pub mod Written

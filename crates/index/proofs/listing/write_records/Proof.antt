@@ -10,8 +10,9 @@ use Rattle.rules.specs.Layout.{depth}
 use Rattle.rules.specs.Scan.{leader}
 use Rattle.rules.specs.Listing.{wordsOf}
 use Rattle.rules.proofs.Scan.{leader-zero}
-use Rattle.segment.specs.Listing.{Written}
-use Rattle.segment.proofs.Records.{words-none, length-words, written-none}
+use Rattle.stores.specs.Written.{Written}
+use Rattle.stores.proofs.Written.{written-none}
+use Rattle.segment.proofs.Records.{words-none, length-words}
 use Rattle.directory.proofs.Shapes.{bounds}
 use Rattle.index.proofs.Parts.{span, part-length}
 use Rattle.index.proofs.Listings.{recordsTo, records-start, records-end, turn, write-turn}

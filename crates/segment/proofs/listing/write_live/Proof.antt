@@ -7,9 +7,10 @@ use mathlib.Core.Path.{_≡_, refl, _∙_}
 use lib.ListN.{length}
 use Rattle.rules.specs.Keys.{index}
 use Rattle.rules.specs.Listing.{wordsOf, liveRecord}
-use Rattle.segment.specs.Listing.{Written}
+use Rattle.stores.specs.Written.{Written}
+use Rattle.stores.proofs.Written.{written-none, written-append}
 use Rattle.segment.proofs.Words.{key-word, slot-holds}
-use Rattle.segment.proofs.Records.{recordsBelow, records-none, records-more, count-room, words-none, words-append, length-words, written-none, written-append}
+use Rattle.segment.proofs.Records.{recordsBelow, records-none, records-more, count-room, words-none, words-append, length-words}
 use Rattle.segment.proofs.listing.write_live.Statement.{statement}
 use Rattle.segment.proofs.listing.write_live.Tie as tie
 

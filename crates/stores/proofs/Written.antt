@@ -1,0 +1,39 @@
+-- Words written to a list one behind the other.
+-- Assumes nothing.
+use Prim.Native.Nat.{ℕ, _+_, _≤_, _<_}
+use native.Mathlib.Nat.{add-zero}
+use native.Mathlib.Numerals.{add-one}
+use native.Mathlib.Omega.{arith}
+use mathlib.Core.Path.{_≡_, refl, sym, ap, _∙_}
+use mathlib.Core.List.{List, [], _∷_, _++_, append-assoc, append-nil}
+use lib.ListN.{length, take, drop, set, length-append, take-append-drop}
+use lib.Seq.{length-take-le, sets-eq, take-at, drop-append-add, drop-drop}
+use Rattle.stores.specs.Written.{Written}
+
+pub written-none : (at : ℕ) (l : List ℕ) → Written [] at l at l
+written-none at l =
+    record { behind = omega arith; list = rw (append-nil (take at l), add-zero at) (sym (take-append-drop at l)) }
+
+pub written-one : (x at : ℕ) (l : List ℕ) → at < length l → Written (x ∷ []) at l (at + 1) (set l at x)
+written-one x at l h = record { behind = refl; list = sets-eq (x ∷ []) l at (omega (arith, h)) }
+
+pub written-pair : (x y at : ℕ) (l : List ℕ) → at + 2 ≤ length l → Written (x ∷ y ∷ []) at l (at + 2) (set (set l at x) (at + 1) y)
+written-pair x y at l h = record { behind = refl; list = rw (add-one at) (sets-eq (x ∷ y ∷ []) l at h) }
+
+-- Words behind words.
+pub written-append : (vs ws : List ℕ) (at : ℕ) (l : List ℕ) (m : ℕ) (l₁ : List ℕ) (n : ℕ) (l₂ : List ℕ) → at ≤ length l
+    → Written vs at l m l₁ → Written ws m l₁ n l₂ → Written (vs ++ ws) at l n l₂
+written-append vs ws at l m l₁ n l₂ h p q =
+    let front : List ℕ = take at l ++ vs in
+    let back : List ℕ = drop (at + length vs) l in
+    let m′ : m ≡ length front = p .behind ∙ sym (length-append (take at l) vs ∙ rw (length-take-le at l h)) in
+    let long : at + length vs + length ws ≡ at + length (vs ++ ws) = rw (length-append vs ws) (omega arith) in
+    let kept : take m l₁ ≡ front = rw (p .list) (take-at front back m (sym m′)) in
+    let left : drop (m + length ws) l₁ ≡ drop (at + length (vs ++ ws)) l =
+    rw (p .list, m′) (drop-append-add front back (length ws))
+    ∙ drop-drop (length ws) (at + length vs) l
+    ∙ ap (λ (k : ℕ). drop k l) long in
+    record {
+      behind = rw (length-append vs ws) (omega (arith, p .behind, q .behind));
+      list = q .list ∙ rw (kept, left, append-assoc (take at l) vs ws);
+    }
