@@ -1,0 +1,28 @@
+-- `desk_text::output::write_field` meets its contract.
+-- Assumes nothing.
+use mathlib.Core.List.{[], _∷_}
+use native.Mathlib.Omega.{arith}
+use borrow.Author.Needs.{needs}
+use Rattle.stores.proofs.Written.{written-append}
+use Rattle.desk_text.specs.Number.{decimal}
+use Rattle.desk_text.proofs.Digits.{length-decimal}
+use Rattle.desk_text.proofs.output.write_field.Statement.{statement}
+use Rattle.desk_text.proofs.output.write_field.Tie as tie
+
+write-byte-requires : tie.Need-write-byte-requires
+write-byte-requires c κs = search needs
+
+write-decimal-requires : tie.Need-write-decimal-requires
+write-decimal-requires c κs =
+    omega (arith, length-decimal (c .before .before .before .before .before .before .args .n), c .before .before .before .write-byte .ensures .behind)
+
+same-length : tie.Need-same-length
+same-length c = search needs
+
+returns : tie.Need-returns
+returns c =
+    written-append (_ ∷ []) (decimal (c .before .before .before .before .before .before .before .before .before .args .n)) _ _ _ _ _ _ (search needs) (c .before .before .before .before .before .before .write-byte .ensures) (c .before .before .write-decimal .ensures)
+
+pub write-field-spec : {M : Type 1} → statement M
+write-field-spec =
+    tie.close (tie.spec write-byte-requires write-decimal-requires same-length returns)

@@ -1,0 +1,84 @@
+-- Document 01, 'The desk program': the lines that are calls.
+-- Assumes nothing.
+use Prim.Native.Nat.{ℕ, _^_}
+use mathlib.Core.List.{List, [], _∷_}
+use mathlib.Core.Option.{Option, none, some}
+use lib.Dec.{eqb, ltb}
+use Rattle.stores.specs.Lists.{pick}
+use Rattle.rules.specs.declared.Call.{Call}
+use Rattle.rules.specs.declared.Call.the-variants.{Format, Get, Put, Remove, Mend, List as ListCall}
+use Rattle.desk_text.specs.declared.line.Line.{Line}
+use Rattle.desk_text.specs.declared.line.Line.the-variants.{Called, Other}
+use Rattle.desk_text.specs.Parts.{fieldsOf}
+use Rattle.desk_text.specs.Number.{number}
+
+-- The letters F, P, G, R, M and L.
+abbrev pub letterFormat : ℕ
+letterFormat = 70
+
+abbrev pub letterPut : ℕ
+letterPut = 80
+
+abbrev pub letterGet : ℕ
+letterGet = 71
+
+abbrev pub letterRemove : ℕ
+letterRemove = 82
+
+abbrev pub letterMend : ℕ
+letterMend = 77
+
+abbrev pub letterList : ℕ
+letterList = 76
+
+-- The letter of a call.
+abbrev pub letterOf : Call → ℕ
+letterOf (Format D S allowance) = letterFormat
+letterOf (Put key value allowance) = letterPut
+letterOf (Get key) = letterGet
+letterOf (Remove key allowance) = letterRemove
+letterOf (Mend allowance) = letterMend
+letterOf ListCall = letterList
+
+-- A number in front of numbers, where all of them are there.
+unfoldable pub both : Option ℕ → Option (List ℕ) → Option (List ℕ)
+both none ns = none
+both (some n) none = none
+both (some n) (some ns) = some (n ∷ ns)
+
+-- The numbers that fields spell, where each is one.
+unfoldable pub numbersOf : List (List ℕ) → Option (List ℕ)
+numbersOf [] = some []
+numbersOf (field ∷ fields) = both (number field) (numbersOf fields)
+
+-- A call with an allowance, which is below 2^32.
+unfoldable pub allowed : (allowance : ℕ) → Call → Option Call
+allowed allowance call = pick (ltb allowance (2 ^ 32)) (some call) none
+
+-- The call of a letter with these numbers: F D S allowance, P key value allowance, G key, R key allowance, M allowance, L.
+unfoldable pub callWith : (letter : ℕ) → List ℕ → Option Call
+callWith c [] = pick (eqb c letterList) (some ListCall) none
+callWith c (x ∷ []) = pick (eqb c letterGet) (some (Get x)) (pick (eqb c letterMend) (allowed x (Mend x)) none)
+callWith c (x ∷ y ∷ []) = pick (eqb c letterRemove) (allowed y (Remove x y)) none
+callWith c (x ∷ y ∷ z ∷ []) = pick (eqb c letterFormat) (allowed z (Format x y z)) (pick (eqb c letterPut) (allowed z (Put x y z)) none)
+callWith c (x ∷ y ∷ z ∷ w ∷ ns) = none
+
+unfoldable pub calledWith : (letter : ℕ) → Option (List ℕ) → Option Call
+calledWith c none = none
+calledWith c (some ns) = callWith c ns
+
+-- The call of a line's fields: the first is the letter alone, each of the others a number.
+unfoldable pub callOfFields : List (List ℕ) → Option Call
+callOfFields [] = none
+callOfFields ([] ∷ fields) = none
+callOfFields ((c ∷ []) ∷ fields) = calledWith c (numbersOf fields)
+callOfFields ((c ∷ d ∷ cs) ∷ fields) = none
+
+-- The call that a line is, if it is one.
+unfoldable pub callOf : List ℕ → Option Call
+callOf line = callOfFields (fieldsOf line)
+
+-- What the code's reading of a line says.
+abbrev pub lineSaid : Line → Option Call
+lineSaid (Called call) = some call
+lineSaid Other = none

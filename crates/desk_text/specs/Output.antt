@@ -1,0 +1,48 @@
+-- Document 01, 'The desk program': the lines of output.
+-- Assumes nothing.
+use Prim.Native.Nat.{ℕ}
+use mathlib.Core.List.{List, [], _∷_, _++_}
+use Rattle.rules.specs.Replies.{Said, done, absent, refused}
+use Rattle.desk_text.specs.Parts.{tab, lineFeed}
+use Rattle.desk_text.specs.Number.{decimal}
+
+-- The second field: 0 for done, `-` for absent, or the number of the refusal.
+abbrev pub replyText : Said → List ℕ
+replyText (done values) = 48 ∷ []
+replyText absent = 45 ∷ []
+replyText (refused n) = decimal n
+
+-- A field for each value, with its tab in front.
+unfoldable pub valuesText : List ℕ → List ℕ
+valuesText [] = []
+valuesText (v ∷ vs) = tab ∷ decimal v ++ valuesText vs
+
+-- The fields behind the store count: the value of a get that found its key, or the record count of a done list.
+abbrev pub saidText : Said → List ℕ
+saidText (done values) = valuesText values
+saidText absent = []
+saidText (refused n) = []
+
+-- What a line starts with, up to the store count, and what it ends with, behind it.
+abbrev pub headText : (letter : ℕ) → Said → List ℕ
+headText letter said = letter ∷ tab ∷ replyText said
+
+abbrev pub endText : Said → List ℕ
+endText said = saidText said ++ lineFeed ∷ []
+
+-- The line of an answer: the letter, the reply, the stores made, and the value or count.
+unfoldable pub answerLine : (letter : ℕ) → Said → (stores : ℕ) → List ℕ
+answerLine letter said stores =
+    letter ∷ tab ∷ replyText said ++ tab ∷ decimal stores ++ saidText said ++ lineFeed ∷ []
+
+-- The line for a line that is no call: a question mark.
+abbrev pub otherLine : List ℕ
+otherLine = 63 ∷ lineFeed ∷ []
+
+-- The line for a script of too many bytes: an exclamation mark.
+abbrev pub tooLongLine : List ℕ
+tooLongLine = 33 ∷ lineFeed ∷ []
+
+-- The bytes of room for the longest line: letter, reply, stores and value with their tabs and the line feed.
+abbrev pub lineRoom : ℕ
+lineRoom = 48

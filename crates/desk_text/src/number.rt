@@ -1,0 +1,70 @@
+// A number as text: read from a field of a script, and written in decimal digits.
+use crate::output::write_byte;
+ghost use Prim.Native.Nat.{_+_, _≤_};
+ghost use mathlib.Core.Path.{_≡_};
+ghost use lib.ListN.{length};
+ghost use Rattle.stores.specs.Written.{Written};
+ghost use Rattle.desk_text.specs.Number.{number, numberSaid, decimal, withDigit};
+
+// The most digits of a number.
+const MOST_DIGITS: usize = 20;
+
+const ZERO: u8 = b'0';
+
+const NINE: u8 = b'9';
+
+// What a field spells: a number below 2^64, or none.
+pub enum Number {
+    Is(u64),
+    Not,
+}
+
+// The number that `value` and one digit behind it spell.
+fn with_digit(value: u64, byte: u8) -> Number
+    ensures { λ r. ⌜ numberSaid r ≡ withDigit value byte ⌝ }
+{
+    if byte < ZERO {
+        return Number::Not;
+    }
+    if NINE < byte {
+        return Number::Not;
+    }
+    let digit = (byte - ZERO) as u64;
+    if (u64::MAX - digit) / 10 < value {
+        return Number::Not;
+    }
+    Number::Is(10 * value + digit)
+}
+
+// Reads a field as a number.
+pub fn read_number(field: &[u8]) -> Number
+    ensures { λ r. ⌜ numberSaid r ≡ number (now (field .entry)) ⌝ }
+{
+    if field.len() < 1 {
+        return Number::Not;
+    }
+    if MOST_DIGITS < field.len() {
+        return Number::Not;
+    }
+    let mut value: u64 = 0;
+    for i in 0..field.len() {
+        let Number::Is(next) = with_digit(value, field[i]) else {
+            return Number::Not;
+        };
+        value = next;
+    }
+    Number::Is(value)
+}
+
+// Writes n in decimal digits from position `at` on, and answers the position behind them.
+pub fn write_decimal(n: u64, out: &mut [u8], at: usize) -> usize
+    requires { ⌜ at + length (decimal n) ≤ length (now out) ⌝ }
+    ensures { λ r. ⌜ Written (decimal n) at (now (out .entry)) r (now (out .exit)) ⌝ }
+{
+    let digit = (n % 10) as u8;
+    if n < 10 {
+        return write_byte(ZERO + digit, out, at);
+    }
+    let next = write_decimal(n / 10, out, at);
+    write_byte(ZERO + digit, out, next)
+}

@@ -1,0 +1,123 @@
+// The lines of output.
+use crate::number::write_decimal;
+use rules::Answer;
+use rules::Refusal;
+use rules::Reply;
+ghost use Prim.Native.Nat.{_+_, _≤_, _<_};
+ghost use mathlib.Core.Path.{_≡_};
+ghost use mathlib.Core.List.{[], _∷_};
+ghost use lib.ListN.{length};
+ghost use Rattle.stores.specs.Written.{Written};
+ghost use Rattle.rules.specs.Replies.{numberOf, saidBy};
+ghost use Rattle.desk_text.specs.Parts.{tab};
+ghost use Rattle.desk_text.specs.Number.{decimal};
+ghost use Rattle.desk_text.specs.Output.{replyText, headText, endText, answerLine, otherLine, tooLongLine, lineRoom};
+
+// The bytes of room for the longest line.
+pub const LINE_ROOM: usize = 48;
+
+const TAB: u8 = b'\t';
+
+const LINE_FEED: u8 = b'\n';
+
+// Writes one byte at position `at`, and answers the position behind it.
+pub(crate) fn write_byte(byte: u8, out: &mut [u8], at: usize) -> usize
+    requires { ⌜ at < length (now out) ⌝ }
+    ensures { λ r. ⌜ Written (byte ∷ []) at (now (out .entry)) r (now (out .exit)) ⌝ }
+{
+    out[at] = byte;
+    at + 1
+}
+
+// Document 01's number of a refusal.
+pub fn refusal_number(refusal: Refusal) -> u64
+    ensures { λ r. ⌜ r ≡ numberOf refusal ⌝ }
+{
+    match refusal {
+        Refusal::NoStore => 1,
+        Refusal::NoKey => 2,
+        Refusal::Broken => 3,
+        Refusal::Unmended => 4,
+        Refusal::TooDeep => 5,
+        Refusal::NoSegment => 6,
+        Refusal::CutOff => 7,
+        Refusal::BadShape => 8,
+        Refusal::TooShort => 9,
+        Refusal::ShortList => 10,
+    }
+}
+
+// Writes a tab and n in decimal digits.
+fn write_field(n: u64, out: &mut [u8], at: usize) -> usize
+    requires { ⌜ at + 21 ≤ length (now out) ⌝ }
+    ensures { λ r. ⌜ Written (tab ∷ decimal n) at (now (out .entry)) r (now (out .exit)) ⌝ }
+{
+    let next = write_byte(TAB, out, at);
+    write_decimal(n, out, next)
+}
+
+// Writes a reply: 0 for done, `-` for absent, or the number of the refusal, which has two digits
+// at most.
+fn write_reply(reply: Reply, out: &mut [u8], at: usize) -> usize
+    requires { ⌜ at + 2 ≤ length (now out) ⌝ }
+    ensures { λ r. ⌜ Written (replyText (saidBy reply)) at (now (out .entry)) r (now (out .exit)) ⌝ }
+{
+    match reply {
+        Reply::Done => write_byte(b'0', out, at),
+        Reply::Value(_) => write_byte(b'0', out, at),
+        Reply::Absent => write_byte(b'-', out, at),
+        Reply::Refused(refusal) => write_decimal(refusal_number(refusal), out, at),
+    }
+}
+
+// Writes what a line of an answer starts with: the letter, a tab and the reply.
+fn write_head(letter: u8, reply: Reply, out: &mut [u8], at: usize) -> usize
+    requires { ⌜ at + 4 ≤ length (now out) ⌝ }
+    ensures { λ r. ⌜ Written (headText letter (saidBy reply)) at (now (out .entry)) r (now (out .exit)) ⌝ }
+{
+    let next = write_byte(letter, out, at);
+    let next = write_byte(TAB, out, next);
+    write_reply(reply, out, next)
+}
+
+// Writes what a line of an answer ends with: the value where there is one, and the line feed.
+fn write_end(reply: Reply, out: &mut [u8], at: usize) -> usize
+    requires { ⌜ at + 22 ≤ length (now out) ⌝ }
+    ensures { λ r. ⌜ Written (endText (saidBy reply)) at (now (out .entry)) r (now (out .exit)) ⌝ }
+{
+    let Reply::Value(value) = reply else {
+        return write_byte(LINE_FEED, out, at);
+    };
+    let next = write_field(value, out, at);
+    write_byte(LINE_FEED, out, next)
+}
+
+// Writes the line of an answer from position `at` on, and answers the position behind it.
+pub fn write_answer(letter: u8, answer: Answer, out: &mut [u8], at: usize) -> usize
+    requires { ⌜ at + lineRoom ≤ length (now out) ⌝ }
+    ensures { λ r. ⌜ Written (answerLine letter (saidBy (answer .reply)) (answer .stores)) at (now (out .entry)) r (now (out .exit)) ⌝ }
+{
+    let reply = answer.reply;
+    let stores = answer.stores as u64;
+    let next = write_head(letter, reply, out, at);
+    let next = write_field(stores, out, next);
+    write_end(reply, out, next)
+}
+
+// Writes the line for a line that is no call.
+pub fn write_other(out: &mut [u8], at: usize) -> usize
+    requires { ⌜ at + lineRoom ≤ length (now out) ⌝ }
+    ensures { λ r. ⌜ Written otherLine at (now (out .entry)) r (now (out .exit)) ⌝ }
+{
+    let next = write_byte(b'?', out, at);
+    write_byte(LINE_FEED, out, next)
+}
+
+// Writes the line for a script of too many bytes.
+pub fn write_too_long(out: &mut [u8], at: usize) -> usize
+    requires { ⌜ at + lineRoom ≤ length (now out) ⌝ }
+    ensures { λ r. ⌜ Written tooLongLine at (now (out .entry)) r (now (out .exit)) ⌝ }
+{
+    let next = write_byte(b'!', out, at);
+    write_byte(LINE_FEED, out, next)
+}
