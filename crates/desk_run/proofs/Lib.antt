@@ -1,0 +1,4 @@
+-- The laws of a script that is run.
+pub mod Runs
+pub mod Joined
+pub mod Samples

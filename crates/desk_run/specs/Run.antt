@@ -1,0 +1,48 @@
+-- Document 01, 'The desk program': what a script writes, and the index array that it leaves.
+-- Assumes nothing.
+use Prim.Native.Nat.{ℕ}
+use mathlib.Core.List.{List, [], _∷_, _++_}
+use mathlib.Core.Option.{Option, none, some}
+use lib.Dec.{leb}
+use lib.ListN.{length}
+use Rattle.stores.specs.Lists.{pick}
+use Rattle.stores.specs.Plan.{Outcome}
+use Rattle.rules.specs.declared.Call.{Call}
+use Rattle.rules.specs.Replies.{Said}
+use Rattle.rules.specs.Step.{step}
+use Rattle.desk_text.specs.Parts.{linesOf}
+use Rattle.desk_text.specs.Line.{letterOf, callOf}
+use Rattle.desk_text.specs.Output.{answerLine, otherLine, tooLongLine}
+
+-- The most bytes of a script.
+abbrev pub mostBytes : ℕ
+mostBytes = 16384
+
+-- The text written, and the index array afterwards.
+pub record Ran : Type 0 where
+  pub text : List ℕ
+  pub words : List ℕ
+
+-- A call that has said and left this.
+abbrev pub answered : Call → Outcome Said → Ran
+answered call o = record { text = answerLine (letterOf call) (o .reply) (o .made); words = o .after }
+
+-- One line on the index array a, with a list array of `room` words: a call is made, any other line prints a question mark.
+unfoldable pub ranCall : (room : ℕ) → List ℕ → Option Call → Ran
+ranCall room a none = record { text = otherLine; words = a }
+ranCall room a (some call) = answered call (step a room call)
+
+-- What one line gives, followed by what the later ones give.
+abbrev pub followed : Ran → Ran → Ran
+followed first later = record { text = first .text ++ later .text; words = later .words }
+
+-- Lines one after the other, each on the array that the one before left.
+unfoldable pub ranLines : (room : ℕ) → List ℕ → List (List ℕ) → Ran
+ranLines room a [] = record { text = []; words = a }
+ranLines room a (line ∷ lines) =
+    let first : Ran = ranCall room a (callOf line) in
+    followed first (ranLines room (first .words) lines)
+
+-- A whole script; one of too many bytes gives the single line `!`, and nothing is run.
+unfoldable pub ran : (room : ℕ) → List ℕ → (script : List ℕ) → Ran
+ran room a script = pick (leb (length script) mostBytes) (ranLines room a (linesOf script)) (record { text = tooLongLine; words = a })
