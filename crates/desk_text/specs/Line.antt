@@ -63,6 +63,7 @@ callWith c (x ∷ y ∷ []) = pick (eqb c letterRemove) (allowed y (Remove x y))
 callWith c (x ∷ y ∷ z ∷ []) = pick (eqb c letterFormat) (allowed z (Format x y z)) (pick (eqb c letterPut) (allowed z (Put x y z)) none)
 callWith c (x ∷ y ∷ z ∷ w ∷ ns) = none
 
+-- The same where some field may be no number.
 unfoldable pub calledWith : (letter : ℕ) → Option (List ℕ) → Option Call
 calledWith c none = none
 calledWith c (some ns) = callWith c ns

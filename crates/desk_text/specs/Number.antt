@@ -14,6 +14,7 @@ use Rattle.desk_text.specs.declared.number.Number.the-variants.{Is, Not}
 abbrev pub digitZero : ℕ
 digitZero = 48
 
+-- A byte is a digit, and every byte is one.
 unfoldable pub isDigit : ℕ → Bool
 isDigit c = leb digitZero c && leb c 57
 

@@ -23,10 +23,11 @@ saidText (done values) = valuesText values
 saidText absent = []
 saidText (refused n) = []
 
--- What a line starts with, up to the store count, and what it ends with, behind it.
+-- What a line starts with, in front of the store count.
 abbrev pub headText : (letter : ℕ) → Said → List ℕ
 headText letter said = letter ∷ tab ∷ replyText said
 
+-- What it ends with, behind the store count.
 abbrev pub endText : Said → List ℕ
 endText said = saidText said ++ lineFeed ∷ []
 

@@ -5,6 +5,7 @@ use mathlib.Core.List.{List, [], _∷_}
 use lib.Dec.{eqb}
 use Rattle.stores.specs.Lists.{pick}
 
+-- The bytes that part a text.
 abbrev pub tab : ℕ
 tab = 9
 
