@@ -3,8 +3,8 @@
 // index of the cabinet's size, D = 12, S = 4,032, filled with running image numbers to the first
 // refusal, in which every page is looked up again.
 use rules::Answer;
-use rules::Refusal;
 use rules::Reply;
+use rules::refusal_number;
 use std::num::wrapping_add_u64;
 ghost use mathlib.Core.Path.{_≡_};
 ghost use lib.ListN.{length};
@@ -23,29 +23,13 @@ const CABINET_WORDS: usize = 524288;
 // More pages than the slots of 4,032 segments.
 const MOST_PAGES: u64 = 300000;
 
-// Document 01's number of a refusal.
-fn refusal_number(refusal: Refusal) -> u64 {
-    match refusal {
-        Refusal::NoStore => 1,
-        Refusal::NoKey => 2,
-        Refusal::Broken => 3,
-        Refusal::Unmended => 4,
-        Refusal::TooDeep => 5,
-        Refusal::NoSegment => 6,
-        Refusal::CutOff => 7,
-        Refusal::BadShape => 8,
-        Refusal::TooShort => 9,
-        Refusal::ShortList => 10,
-    }
-}
-
 // The number of a reply: 0 for done.
 fn reply_number(reply: Reply) -> u64 {
     match reply {
         Reply::Done => 0,
         Reply::Value(_) => 0,
         Reply::Absent => 0,
-        Reply::Refused(refusal) => refusal_number(refusal),
+        Reply::Refused(refusal) => refusal_number(refusal) as u64,
     }
 }
 

@@ -1,4 +1,6 @@
 // The types that cross the crates: one call as data, and what a call answers.
+ghost use mathlib.Core.Path.{_≡_};
+ghost use Rattle.rules.specs.Replies.{numberOf};
 
 // Document 01, 'Replies that say no': the ten refusals, in the order of its table.
 pub enum Refusal {
@@ -53,4 +55,22 @@ pub enum Call {
         allowance: u32,
     },
     List,
+}
+
+// The number of a refusal in document 01's table.
+pub fn refusal_number(refusal: Refusal) -> u32
+    ensures { λ r. ⌜ r ≡ numberOf refusal ⌝ }
+{
+    match refusal {
+        Refusal::NoStore => 1,
+        Refusal::NoKey => 2,
+        Refusal::Broken => 3,
+        Refusal::Unmended => 4,
+        Refusal::TooDeep => 5,
+        Refusal::NoSegment => 6,
+        Refusal::CutOff => 7,
+        Refusal::BadShape => 8,
+        Refusal::TooShort => 9,
+        Refusal::ShortList => 10,
+    }
 }

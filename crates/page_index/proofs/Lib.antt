@@ -1,0 +1,2 @@
+-- From the promise of a call to what is told of it.
+pub mod Tellings

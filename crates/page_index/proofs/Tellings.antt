@@ -1,0 +1,29 @@
+-- From the promise of a call to what is told of it.
+-- Assumes nothing.
+use Prim.Native.Nat.{ℕ}
+use mathlib.Core.Path.{_≡_, ap, _∙_}
+use mathlib.Core.List.{List}
+use lib.ListN.{length}
+use Rattle.stores.specs.Plan.{Outcome}
+use Rattle.rules.specs.declared.Answer.{Answer}
+use Rattle.rules.specs.declared.Call.the-variants.{List as ListCall}
+use Rattle.rules.specs.Replies.{Said, saidBy}
+use Rattle.rules.specs.Step.{step, Performed}
+use Rattle.index.specs.Answered.{Answered}
+use Rattle.page_index.specs.declared.PageIndexReply.{PageIndexReply}
+use Rattle.page_index.specs.Told.{Tells, Told, ToldList, codeOf, valueOf}
+
+-- An answer that says the same says so in numbers too.
+tells-same : {s t : Said} {m n : ℕ} {r : PageIndexReply} → Tells s m r → s ≡ t → m ≡ n → Tells t n r
+tells-same k p q = record { code = k .code ∙ ap codeOf p; count = k .count ∙ q; value = k .value ∙ ap valueOf p }
+
+module _ {answer : Answer} {r : PageIndexReply} (k : Tells (saidBy (answer .reply)) (answer .stores) r) where
+  pub told-answered : {o : Outcome Said} {after : List ℕ} → Answered o answer after → Told o r after
+  told-answered h = record { answer = tells-same k (h .reply) (h .stores); words = h .words }
+
+  pub told-listed : {a l l′ : List ℕ} → Performed ListCall a l answer a l′ → ToldList a l r l′
+  told-listed h =
+      record {
+        told = record { answer = tells-same k (h .reply) (h .stores); words = h .words };
+        listed = h .listed;
+      }

@@ -1,0 +1,2 @@
+-- The calls as C sees them.
+pub mod Told

@@ -1,0 +1,40 @@
+-- An answer as three numbers.
+-- Assumes nothing.
+use Prim.Native.Nat.{ℕ}
+use mathlib.Core.Path.{_≡_}
+use mathlib.Core.List.{List, [], _∷_}
+use lib.ListN.{length}
+use Rattle.stores.specs.Plan.{Outcome}
+use Rattle.rules.specs.declared.Call.the-variants.{List as ListCall}
+use Rattle.rules.specs.Replies.{Said, done, absent, refused}
+use Rattle.rules.specs.Step.{step, ListLeft}
+use Rattle.page_index.specs.declared.PageIndexReply.{PageIndexReply}
+
+-- The code of a reply: 0 for done, document 01's number of a refusal, and 255, which is our choice, for absent.
+abbrev pub codeOf : Said → ℕ
+codeOf (done values) = 0
+codeOf absent = 255
+codeOf (refused n) = n
+
+-- The value that goes with a reply: what a get found, or how many records a list wrote; else 0.
+abbrev pub valueOf : Said → ℕ
+valueOf (done []) = 0
+valueOf (done (v ∷ vs)) = v
+valueOf absent = 0
+valueOf (refused n) = 0
+
+-- An answer in three numbers says this, with this number of stores.
+pub record Tells (said : Said) (stores : ℕ) (r : PageIndexReply) : Type 0 where
+  pub code : r .code ≡ codeOf said
+  pub count : r .stores ≡ stores
+  pub value : r .value ≡ valueOf said
+
+-- The answer and the array afterwards are those of the outcome: what is said, the number of stores made, and every word.
+pub record Told (o : Outcome Said) (r : PageIndexReply) (after : List ℕ) : Type 0 where
+  pub answer : Tells (o .reply) (o .made) r
+  pub words : after ≡ o .after
+
+-- A list of the array a has told its outcome, and has left l′ in the list array l.
+pub record ToldList (a l : List ℕ) (r : PageIndexReply) (l′ : List ℕ) : Type 0 where
+  pub told : Told (step a (length l) ListCall) r a
+  pub listed : ListLeft ListCall ((step a (length l) ListCall) .reply) a l l′

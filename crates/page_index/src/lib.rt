@@ -1,0 +1,107 @@
+// The six calls for C and Rust. Each is the index's call, its answer told in three numbers.
+use rules::Answer;
+use rules::Reply;
+use rules::refusal_number;
+ghost use Rattle.rules.specs.declared.Call.the-variants.{Format, Get, Put, Remove, Mend};
+ghost use Rattle.rules.specs.Replies.{saidBy};
+ghost use Rattle.rules.specs.Step.{step};
+ghost use Rattle.page_index.specs.Told.{Tells, Told, ToldList};
+
+// The code of the reply absent; done is 0, a refusal has its number.
+const ABSENT: u32 = 255;
+
+// An answer: C's `struct page_index_reply`.
+#[repr(C)]
+pub struct PageIndexReply {
+    pub code: u32,
+    pub stores: u32,
+    pub value: u64,
+}
+
+// An answer of the index in three numbers.
+fn told(answer: Answer) -> PageIndexReply
+    ensures { λ r. ⌜ Tells (saidBy (answer .reply)) (answer .stores) r ⌝ }
+{
+    let stores = answer.stores;
+    let reply = answer.reply;
+    match reply {
+        Reply::Done => PageIndexReply {
+            code: 0,
+            stores,
+            value: 0,
+        },
+        Reply::Value(value) => PageIndexReply {
+            code: 0,
+            stores,
+            value,
+        },
+        Reply::Absent => PageIndexReply {
+            code: ABSENT,
+            stores,
+            value: 0,
+        },
+        Reply::Refused(refusal) => PageIndexReply {
+            code: refusal_number(refusal),
+            stores,
+            value: 0,
+        },
+    }
+}
+
+// Format: `depth` is document 01's D, `segments` its S.
+#[no_mangle]
+pub extern "C" fn page_index_format(
+    words: &mut [u64],
+    depth: u64,
+    segments: u64,
+    allowance: u32,
+) -> PageIndexReply
+    ensures { λ r. ⌜ Told (step (now (words .entry)) 0 (Format depth segments allowance)) r (now (words .exit)) ⌝ }
+{
+    told(index::format(words, depth, segments, allowance))
+}
+
+// Get.
+#[no_mangle]
+pub extern "C" fn page_index_get(words: &[u64], key: u64) -> PageIndexReply
+    ensures { λ r. ⌜ Told (step (now (words .entry)) 0 (Get key)) r (now (words .entry)) ⌝ }
+{
+    told(index::get(words, key))
+}
+
+// Put.
+#[no_mangle]
+pub extern "C" fn page_index_put(
+    words: &mut [u64],
+    key: u64,
+    value: u64,
+    allowance: u32,
+) -> PageIndexReply
+    ensures { λ r. ⌜ Told (step (now (words .entry)) 0 (Put key value allowance)) r (now (words .exit)) ⌝ }
+{
+    told(index::put(words, key, value, allowance))
+}
+
+// Remove.
+#[no_mangle]
+pub extern "C" fn page_index_remove(words: &mut [u64], key: u64, allowance: u32) -> PageIndexReply
+    ensures { λ r. ⌜ Told (step (now (words .entry)) 0 (Remove key allowance)) r (now (words .exit)) ⌝ }
+{
+    told(index::remove(words, key, allowance))
+}
+
+// Mend.
+#[no_mangle]
+pub extern "C" fn page_index_mend(words: &mut [u64], allowance: u32) -> PageIndexReply
+    ensures { λ r. ⌜ Told (step (now (words .entry)) 0 (Mend allowance)) r (now (words .exit)) ⌝ }
+{
+    told(index::mend(words, allowance))
+}
+
+// List. The order of the records in the list array is the program's choice.
+#[no_mangle]
+pub extern "C" fn page_index_list(words: &[u64], list: &mut [u64]) -> PageIndexReply
+    ensures { λ r. ⌜ ToldList (now (words .entry)) (now (list .entry)) r (now (list .exit)) ⌝ }
+{
+    told(index::list(words, list))
+}
