@@ -30,10 +30,10 @@ fn told(answer: Answer) -> PageIndexReply
             stores,
             value: 0,
         },
-        Reply::Value(value) => PageIndexReply {
+        Reply::Value(found) => PageIndexReply {
             code: 0,
             stores,
-            value,
+            value: found,
         },
         Reply::Absent => PageIndexReply {
             code: ABSENT,
