@@ -1,14 +1,14 @@
 // The lines of output.
 use crate::number::write_decimal;
 use rules::Answer;
-use rules::Refusal;
 use rules::Reply;
+use rules::refusal_number;
 ghost use Prim.Native.Nat.{_+_, _≤_, _<_};
 ghost use mathlib.Core.Path.{_≡_};
 ghost use mathlib.Core.List.{[], _∷_};
 ghost use lib.ListN.{length};
 ghost use Rattle.stores.specs.Written.{Written};
-ghost use Rattle.rules.specs.Replies.{numberOf, saidBy};
+ghost use Rattle.rules.specs.Replies.{saidBy};
 ghost use Rattle.desk_text.specs.Parts.{tab};
 ghost use Rattle.desk_text.specs.Number.{decimal};
 ghost use Rattle.desk_text.specs.Output.{replyText, headText, endText, answerLine, otherLine, tooLongLine, lineRoom};
@@ -27,24 +27,6 @@ pub(crate) fn write_byte(byte: u8, out: &mut [u8], at: usize) -> usize
 {
     out[at] = byte;
     at + 1
-}
-
-// Document 01's number of a refusal.
-pub fn refusal_number(refusal: Refusal) -> u64
-    ensures { λ r. ⌜ r ≡ numberOf refusal ⌝ }
-{
-    match refusal {
-        Refusal::NoStore => 1,
-        Refusal::NoKey => 2,
-        Refusal::Broken => 3,
-        Refusal::Unmended => 4,
-        Refusal::TooDeep => 5,
-        Refusal::NoSegment => 6,
-        Refusal::CutOff => 7,
-        Refusal::BadShape => 8,
-        Refusal::TooShort => 9,
-        Refusal::ShortList => 10,
-    }
 }
 
 // Writes a tab and n in decimal digits.
@@ -66,7 +48,7 @@ fn write_reply(reply: Reply, out: &mut [u8], at: usize) -> usize
         Reply::Done => write_byte(b'0', out, at),
         Reply::Value(_) => write_byte(b'0', out, at),
         Reply::Absent => write_byte(b'-', out, at),
-        Reply::Refused(refusal) => write_decimal(refusal_number(refusal), out, at),
+        Reply::Refused(refusal) => write_decimal(refusal_number(refusal) as u64, out, at),
     }
 }
 

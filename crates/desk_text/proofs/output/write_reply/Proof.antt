@@ -33,6 +33,9 @@ enum-known-reply c = search needs
 refusal-number-requires : tie.Need-refusal-number-requires
 refusal-number-requires c κs = search needs
 
+cast-write-decimal : tie.Need-cast-write-decimal
+cast-write-decimal c = search needs
+
 write-decimal-requires : tie.Need-write-decimal-requires
 write-decimal-requires c κs =
     let number = c .before .refusal-number .ensures in
@@ -79,6 +82,7 @@ write-reply-spec =
     write-byte-requires-3
     enum-known-reply
     refusal-number-requires
+    cast-write-decimal
     write-decimal-requires
     same-length
     returns
