@@ -1,0 +1,2 @@
+-- The definitions of `desk_test`.
+pub mod Step

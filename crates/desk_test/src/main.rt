@@ -1,0 +1,203 @@
+// Runs scripts of the desk against stored outputs. The arguments are file names in pairs: a script,
+// and the output that it must give.
+use check::same;
+use desk_text::output::LINE_ROOM;
+use libc::STDOUT_FILENO;
+use std::num::wrapping_add_u64;
+ghost use Prim.Native.Nat.{_≤_, _<_};
+ghost use lib.ListN.{length};
+ghost use Rattle.io.specs.Counts.{Counts};
+ghost use Rattle.desk_text.specs.Output.{lineRoom};
+ghost use Rattle.desk_test.specs.Step.{Stepped};
+
+const WORDS: usize = 4160;
+
+const LIST_WORDS: usize = 512;
+
+// A file that fills its buffer counts as not read.
+const SCRIPT_BYTES: usize = 32768;
+
+const EXPECTED_BYTES: usize = 131072;
+
+// Room for one line of output, or for some short ones: a run stops and goes on many times.
+const SMALL_ROOM: usize = LINE_ROOM + 2;
+
+// How far a run has come: the position in the script, the position in the expected output, and
+// whether the last part written is the part expected.
+struct Step {
+    next: usize,
+    at: usize,
+    is_same: bool,
+}
+
+// Runs the script from position `from` on as far as the output buffer has room, and compares what
+// that writes with the expected output from position `at` on.
+fn run_part(
+    script: &[u8],
+    from: usize,
+    expected: &[u8],
+    at: usize,
+    words: &mut [u64],
+    list: &mut [u64],
+    out: &mut [u8],
+) -> Step
+    requires { ⌜ (from < length (now script)) × (at ≤ length (now expected)) × (lineRoom ≤ length (now out)) ⌝ }
+    ensures { λ r. ⌜ Stepped from (length (now (script .entry))) (length (now (expected .entry))) (r .next) (r .at) ⌝ }
+{
+    let progress = desk_run::run(script, from, words, list, out);
+    let next = progress.next;
+    let written = progress.written;
+    if expected.len() - at < written {
+        return Step {
+            next,
+            at,
+            is_same: false,
+        };
+    }
+    let is_same = same(&out[..written], &expected[at..at + written]);
+    Step {
+        next,
+        at: at + written,
+        is_same,
+    }
+}
+
+// Whether the whole script, run in parts, gives the expected output and no more.
+fn gives(
+    script: &[u8],
+    expected: &[u8],
+    words: &mut [u64],
+    list: &mut [u64],
+    out: &mut [u8],
+) -> bool
+    requires { ⌜ lineRoom ≤ length (now out) ⌝ }
+{
+    let mut next = 0;
+    let mut at = 0;
+    while next < script.len() {
+        let step = run_part(script, next, expected, at, words, list, out);
+        if !step.is_same {
+            return false;
+        }
+        next = step.next;
+        at = step.at;
+    }
+    next == script.len() && at == expected.len()
+}
+
+// Whether the script gives the expected output on an index of words that are all 0, with the output
+// buffer lent.
+fn gives_from_nothing(script: &[u8], expected: &[u8], out: &mut [u8]) -> bool
+    requires { ⌜ lineRoom ≤ length (now out) ⌝ }
+{
+    let mut words = [0u64; WORDS];
+    let mut list = [0u64; LIST_WORDS];
+    gives(script, expected, &mut words, &mut list, out)
+}
+
+// Whether the script gives the expected output with much room.
+fn gives_with_much_room(script: &[u8], expected: &[u8]) -> bool {
+    let mut out = io::large_buffer();
+    gives_from_nothing(script, expected, &mut out)
+}
+
+// Whether the script gives the expected output with little room.
+fn gives_with_little_room(script: &[u8], expected: &[u8]) -> bool {
+    let mut out = [0u8; SMALL_ROOM];
+    gives_from_nothing(script, expected, &mut out)
+}
+
+// Writes a tab and a number.
+fn write_field(number: u64) {
+    io::write_all(STDOUT_FILENO, b"\t");
+    io::print_decimal(STDOUT_FILENO, number);
+}
+
+// Runs the script with much and with little room, and writes the rest of its line.
+fn test_script(script: &[u8], expected: &[u8]) -> bool {
+    write_field(script.len() as u64);
+    write_field(expected.len() as u64);
+    let is_same = gives_with_much_room(script, expected)
+        && gives_with_little_room(script, expected);
+    if is_same {
+        io::write_all(STDOUT_FILENO, b"\tsame\n");
+    } else {
+        io::write_all(STDOUT_FILENO, b"\tDIFFERS\n");
+    }
+    is_same
+}
+
+// Reads the file into the buffer, and answers its bytes: the buffer's length where it cannot be
+// opened.
+fn read_file(path: &[u8], buf: &mut [u8]) -> usize
+    ensures { λ r. ⌜ Counts r (now (buf .exit)) ⌝ }
+{
+    let fd = os::open_read(path);
+    if fd < 0 {
+        return buf.len();
+    }
+    let size = io::read_full(fd, buf);
+    libc::close(fd);
+    size
+}
+
+// Reads the file that an argument names.
+fn read_argument(number: usize, buf: &mut [u8]) -> usize
+    ensures { λ r. ⌜ Counts r (now (buf .exit)) ⌝ }
+{
+    let mut path = io::buffer();
+    let size = os::arg(number, &mut path);
+    read_file(&path[..size], buf)
+}
+
+// Writes an argument.
+fn write_argument(number: usize) {
+    let mut text = io::buffer();
+    let size = os::arg(number, &mut text);
+    io::write_all(STDOUT_FILENO, &text[..size]);
+}
+
+// Tests the script that one argument names against the output that another names, and writes a line.
+fn test_pair(script_number: usize, expected_number: usize) -> bool {
+    let mut script = [0u8; SCRIPT_BYTES];
+    let mut expected = [0u8; EXPECTED_BYTES];
+    let script_size = read_argument(script_number, &mut script);
+    let expected_size = read_argument(expected_number, &mut expected);
+    write_argument(script_number);
+    if script_size == SCRIPT_BYTES || expected_size == EXPECTED_BYTES {
+        io::write_all(STDOUT_FILENO, b"\tnot read\n");
+        return false;
+    }
+    test_script(&script[..script_size], &expected[..expected_size])
+}
+
+// The scripts tested, and those that gave the expected output.
+struct Tally {
+    scripts: u64,
+    same: u64,
+}
+
+// Tests each pair of arguments.
+fn test_pairs(pairs: usize) -> Tally
+    requires { ⌜ pairs ≤ 9223372036854775807 ⌝ }
+{
+    let mut scripts: u64 = 0;
+    let mut same: u64 = 0;
+    for pair in 0..pairs {
+        scripts = wrapping_add_u64(scripts, 1);
+        if test_pair(2 * pair + 1, 2 * pair + 2) {
+            same = wrapping_add_u64(same, 1);
+        }
+    }
+    Tally { scripts, same }
+}
+
+// The first argument is the program's name. A script with no output named counts as a pair: its
+// output is not read.
+fn main() {
+    let tally = test_pairs(os::arg_count() / 2);
+    io::print_decimal(STDOUT_FILENO, tally.scripts);
+    io::write_all(STDOUT_FILENO, b" scripts, ");
+    io::print_decimal(STDOUT_FILENO, tally.same);
+    io::write_all(STDOUT_FILENO, b" the same\n");
+}
