@@ -25,26 +25,26 @@ returns c =
     let call = c .before .before .before .before .before .before .before .run in
     record { forward = call .ensures .forward (search needs) (search needs); within = call .ensures .within; fits = search needs }
 
-slice-reshare-prefix-same : tie.Need-slice-reshare-prefix-same
-slice-reshare-prefix-same c = search needs
+slice-reshare-prefix-is-equal : tie.Need-slice-reshare-prefix-is-equal
+slice-reshare-prefix-is-equal c = search needs
 
-slice-aggregate-same : tie.Need-slice-aggregate-same
-slice-aggregate-same c = simp length-take (omega (arith, c .before .before .before .before .before .before .before .before .run .ensures .fits))
+slice-aggregate-is-equal : tie.Need-slice-aggregate-is-equal
+slice-aggregate-is-equal c = simp length-take (omega (arith, c .before .before .before .before .before .before .before .before .run .ensures .fits))
 
-add-same : tie.Need-add-same
-add-same c = search needs
+add-is-equal : tie.Need-add-is-equal
+add-is-equal c = search needs
 
-sub-same : tie.Need-sub-same
-sub-same c = search needs
+sub-is-equal : tie.Need-sub-is-equal
+sub-is-equal c = search needs
 
-part-same-start : tie.Need-part-same-start
-part-same-start c = search needs
+part-is-equal-start : tie.Need-part-is-equal-start
+part-is-equal-start c = search needs
 
-part-same-end : tie.Need-part-same-end
-part-same-end c = search needs
+part-is-equal-end : tie.Need-part-is-equal-end
+part-is-equal-end c = search needs
 
-same-requires : tie.Need-same-requires
-same-requires c κs = search needs
+is-equal-requires : tie.Need-is-equal-requires
+is-equal-requires c κs = search needs
 
 add-t18 : tie.Need-add-t18
 add-t18 c = search needs
@@ -73,13 +73,13 @@ run-part-spec =
     same-length-2
     same-length-3
     returns
-    slice-reshare-prefix-same
-    slice-aggregate-same
-    add-same
-    sub-same
-    part-same-start
-    part-same-end
-    same-requires
+    slice-reshare-prefix-is-equal
+    slice-aggregate-is-equal
+    add-is-equal
+    sub-is-equal
+    part-is-equal-start
+    part-is-equal-end
+    is-equal-requires
     add-t18
     same-length-4
     same-length-5
