@@ -1,0 +1,40 @@
+/* Formats an index of 264 words, puts three pages, gets two and lists them all. */
+#include "page_index.h"
+
+#include <inttypes.h>
+#include <stdio.h>
+
+#define WORDS 264
+#define ALLOWANCE 10000
+
+static uint64_t words[WORDS];
+
+static void report(const char *call, struct page_index_reply reply)
+{
+    printf("%s: code %" PRIu32 ", stores %" PRIu32 ", value %" PRIu64 "\n", call, reply.code, reply.stores,
+           reply.value);
+}
+
+int main(void)
+{
+    uint64_t list[6] = {0};
+    uint64_t keys = 0, values = 0;
+    report("format", page_index_format(words, WORDS, 2, 2, ALLOWANCE));
+    report("put 7", page_index_put(words, WORDS, 7, 70, ALLOWANCE));
+    report("put 8", page_index_put(words, WORDS, 8, 80, ALLOWANCE));
+    report("put 9, no store allowed", page_index_put(words, WORDS, 9, 90, 0));
+    report("put 9", page_index_put(words, WORDS, 9, 90, ALLOWANCE));
+    report("get 8", page_index_get(words, WORDS, 8));
+    report("get 10", page_index_get(words, WORDS, 10));
+    report("list", page_index_list(words, WORDS, list, 6));
+    for (int i = 0; i < 6; i += 2) {
+        keys += list[i];
+        values += list[i + 1];
+    }
+    printf("sum of keys %" PRIu64 ", sum of values %" PRIu64 "\n", keys, values);
+    report("remove 8", page_index_remove(words, WORDS, 8, ALLOWANCE));
+    report("get 8", page_index_get(words, WORDS, 8));
+    report("mend", page_index_mend(words, WORDS, ALLOWANCE));
+    report("list into no words", page_index_list(words, WORDS, list, 0));
+    return 0;
+}

@@ -1,0 +1,100 @@
+/*
+ * The page index: image numbers (keys) and the places of their scans (values) in an array of
+ * 64-bit words that keeps its contents when the power goes.
+ *
+ * Link with libpage_index.a (`rt staticlib page_index` writes it to target/staticlib). The library
+ * needs memcpy from the C library, and nothing else. It uses no heap, keeps no state of its own
+ * between calls, and may be used on several arrays from several threads, one call at a time on each
+ * array. A call uses less than 8,192 bytes of stack.
+ *
+ * What the caller owes, for every call:
+ *   - `words` points to `len` words, aligned to eight bytes, that nobody else writes during the call.
+ *     With `len` 0 it may be any pointer but NULL.
+ *   - `list` points to `list_len` words that do not overlap the words of the index.
+ * Nothing else: every content of the array and every argument gets an answer. No call reads or writes
+ * a word outside the array. Words behind those that the index needs are never touched.
+ *
+ * Power cuts. A call makes its stores one whole word at a time, in a fixed order. If the power goes
+ * during a call, the array is as if the call had been given an allowance of just the stores that were
+ * made. After a power cut call page_index_mend until it answers PAGE_INDEX_DONE; then every page that
+ * was put and acknowledged is found, and the call that was cut off has either happened in full or not
+ * at all. A format that was cut off is begun anew. The memory must take the stores in program order.
+ */
+#ifndef PAGE_INDEX_H
+#define PAGE_INDEX_H
+
+#include <stddef.h>
+#include <stdint.h>
+
+#ifdef __cplusplus
+extern "C" {
+#endif
+
+/* The code of an answer. */
+enum page_index_code {
+    PAGE_INDEX_DONE = 0,
+    PAGE_INDEX_NO_STORE = 1,   /* word 0 is not that of an index, or the array is too short for it */
+    PAGE_INDEX_NO_KEY = 2,     /* the key is 0 */
+    PAGE_INDEX_BROKEN = 3,     /* the directory is damaged */
+    PAGE_INDEX_UNMENDED = 4,   /* a split was cut off: mend first */
+    PAGE_INDEX_TOO_DEEP = 5,   /* the key's slots are full, and its segment has the largest depth */
+    PAGE_INDEX_NO_SEGMENT = 6, /* the key's slots are full, and no segment is free */
+    PAGE_INDEX_CUT_OFF = 7,    /* more stores were due than allowed */
+    PAGE_INDEX_BAD_SHAPE = 8,  /* format: depth not 2 to 12, or segments not 1 to 2^depth */
+    PAGE_INDEX_TOO_SHORT = 9,  /* format: fewer than 2^(depth + 1) + 128 * segments words */
+    PAGE_INDEX_SHORT_LIST = 10, /* list: the list array has fewer than two words for each record */
+    PAGE_INDEX_ABSENT = 255    /* get and remove: the key is not there */
+};
+
+/*
+ * An answer. `stores` is the number of stores made in the array: 0 after the codes 1 to 4, 8 to 10 and
+ * 255, and after every get and list. `value` is what a get found, or how many records a list wrote;
+ * else 0.
+ */
+struct page_index_reply {
+    uint32_t code;
+    uint32_t stores;
+    uint64_t value;
+};
+
+/*
+ * Makes an empty index of largest directory depth `depth` (2 to 12) with `segments` segments (1 to
+ * 2^depth) of up to 64 pages each, in 67 stores. Codes: 0, 7, 8, 9.
+ */
+struct page_index_reply page_index_format(uint64_t *words, size_t len, uint64_t depth, uint64_t segments,
+                                          uint32_t allowance);
+
+/*
+ * Looks a key up. Reads word 0, one word of the directory and at most four buckets of 64 bytes, and
+ * writes nothing. Codes: 0 with the value, 255, 1, 2, 3.
+ */
+struct page_index_reply page_index_get(const uint64_t *words, size_t len, uint64_t key);
+
+/*
+ * Gives the key this value, whether it had one or not. Usually 1 or 2 stores; where segments are
+ * split, up to 9,764. After the codes 5 and 6 the stores of splits already made stay, and no page
+ * has changed. Codes: 0, 1 to 7.
+ */
+struct page_index_reply page_index_put(uint64_t *words, size_t len, uint64_t key, uint64_t value,
+                                       uint32_t allowance);
+
+/* Takes the key's value away, in 1 store. Codes: 0, 255, 1 to 4, 7. */
+struct page_index_reply page_index_remove(uint64_t *words, size_t len, uint64_t key, uint32_t allowance);
+
+/*
+ * Takes back what a split that was cut off has left in the directory. With nothing to do it makes no
+ * store, so it may be called at every start. Codes: 0, 1, 3, 7.
+ */
+struct page_index_reply page_index_mend(uint64_t *words, size_t len, uint32_t allowance);
+
+/*
+ * Writes every record to the list array, each as key, then value, in an order that may differ from
+ * version to version; words behind them stay. Codes: 0 with the number of records, 1, 3, 4, 10.
+ */
+struct page_index_reply page_index_list(const uint64_t *words, size_t len, uint64_t *list, size_t list_len);
+
+#ifdef __cplusplus
+}
+#endif
+
+#endif

@@ -1,0 +1,167 @@
+//! The page index: image numbers (keys) and the places of their scans (values) in an array of 64-bit
+//! words that keeps its contents when the power goes.
+//!
+//! Every array and every argument gets an answer; no call touches a word outside the array, allocates
+//! or keeps state. A call makes its stores one word at a time in a fixed order, so that a power cut
+//! leaves the array as an allowance of so many stores would; after one, [`mend`] until it is done.
+//!
+//! ```
+//! use page_index::{format, get, list, mend, put, remove, Refusal};
+//!
+//! const ALL: u32 = u32::MAX;
+//! let mut words = [0u64; 264];
+//! assert_eq!(format(&mut words, 2, 2, ALL), Ok(67));
+//! assert_eq!(put(&mut words, 7, 70, ALL), Ok(2));
+//! assert_eq!(get(&words, 7), Ok(Some(70)));
+//!
+//! // A put that is allowed one store too few is cut off, and the page keeps its place.
+//! let cut = put(&mut words, 7, 71, 0).unwrap_err();
+//! assert_eq!((cut.refusal, cut.stores), (Refusal::CutOff, 0));
+//! assert_eq!(mend(&mut words, ALL), Ok(0));
+//! assert_eq!(get(&words, 7), Ok(Some(70)));
+//!
+//! let mut records = [0u64; 2];
+//! assert_eq!(list(&words, &mut records), Ok(1));
+//! assert_eq!(records, [7, 70]);
+//! assert_eq!(remove(&mut words, 7, ALL), Ok(Some(1)));
+//! assert_eq!(remove(&mut words, 7, ALL), Ok(None));
+//! ```
+#![warn(missing_docs)]
+
+use std::error::Error;
+use std::fmt;
+
+/// The ten replies that say no, with their numbers.
+#[derive(Clone, Copy, Debug, PartialEq, Eq, Hash)]
+#[repr(u32)]
+pub enum Refusal {
+    /// Word 0 is not that of an index, or the array is too short for it.
+    NoStore = 1,
+    /// The key is 0.
+    NoKey = 2,
+    /// The directory is damaged.
+    Broken = 3,
+    /// A split was cut off: mend first.
+    Unmended = 4,
+    /// The key's slots are full, and its segment has the largest depth.
+    TooDeep = 5,
+    /// The key's slots are full, and no segment is free.
+    NoSegment = 6,
+    /// More stores were due than allowed.
+    CutOff = 7,
+    /// The depth is not 2 to 12, or the number of segments not 1 to 2 to the power of the depth.
+    BadShape = 8,
+    /// The array has too few words for this shape.
+    TooShort = 9,
+    /// The list array has fewer than two words for each record.
+    ShortList = 10,
+}
+
+/// A refusal, and the number of stores that the call made before it.
+#[derive(Clone, Copy, Debug, PartialEq, Eq, Hash)]
+pub struct Refused {
+    /// Which refusal it is.
+    pub refusal: Refusal,
+    /// The stores made: 0 but for too deep, no segment and cut off.
+    pub stores: u32,
+}
+
+impl fmt::Display for Refused {
+    fn fmt(&self, f: &mut fmt::Formatter<'_>) -> fmt::Result {
+        write!(f, "refused ({}: {:?}) after {} stores", self.refusal as u32, self.refusal, self.stores)
+    }
+}
+
+impl Error for Refused {}
+
+/// C's `struct page_index_reply`.
+#[repr(C)]
+struct Reply {
+    code: u32,
+    stores: u32,
+    value: u64,
+}
+
+const DONE: u32 = 0;
+const ABSENT: u32 = 255;
+
+extern "C" {
+    fn page_index_format(words: *mut u64, len: usize, depth: u64, segments: u64, allowance: u32) -> Reply;
+    fn page_index_get(words: *const u64, len: usize, key: u64) -> Reply;
+    fn page_index_put(words: *mut u64, len: usize, key: u64, value: u64, allowance: u32) -> Reply;
+    fn page_index_remove(words: *mut u64, len: usize, key: u64, allowance: u32) -> Reply;
+    fn page_index_mend(words: *mut u64, len: usize, allowance: u32) -> Reply;
+    fn page_index_list(words: *const u64, len: usize, list: *mut u64, list_len: usize) -> Reply;
+}
+
+fn refusal(code: u32) -> Refusal {
+    match code {
+        1 => Refusal::NoStore,
+        2 => Refusal::NoKey,
+        3 => Refusal::Broken,
+        4 => Refusal::Unmended,
+        5 => Refusal::TooDeep,
+        6 => Refusal::NoSegment,
+        7 => Refusal::CutOff,
+        8 => Refusal::BadShape,
+        9 => Refusal::TooShort,
+        10 => Refusal::ShortList,
+        _ => unreachable!("the index answers no code {code}"),
+    }
+}
+
+/// The reply of a done call, `None` for absent, or the refusal.
+fn answered(reply: Reply) -> Result<Option<Reply>, Refused> {
+    match reply.code {
+        DONE => Ok(Some(reply)),
+        ABSENT => Ok(None),
+        code => Err(Refused { refusal: refusal(code), stores: reply.stores }),
+    }
+}
+
+/// The number of stores of a call that is never absent.
+fn stores(reply: Reply) -> Result<u32, Refused> {
+    answered(reply).map(|done| done.map_or(0, |reply| reply.stores))
+}
+
+/// Makes an empty index of largest directory depth `depth` (2 to 12) with `segments` segments, and
+/// answers the number of stores, 67.
+pub fn format(words: &mut [u64], depth: u64, segments: u64, allowance: u32) -> Result<u32, Refused> {
+    // SAFETY: the slice is valid for its length, and nobody else writes it during the call.
+    stores(unsafe { page_index_format(words.as_mut_ptr(), words.len(), depth, segments, allowance) })
+}
+
+/// The value of the key, or `None` where it has none.
+pub fn get(words: &[u64], key: u64) -> Result<Option<u64>, Refused> {
+    // SAFETY: as in `format`; the call only reads.
+    let reply = unsafe { page_index_get(words.as_ptr(), words.len(), key) };
+    answered(reply).map(|done| done.map(|reply| reply.value))
+}
+
+/// Gives the key this value, and answers the number of stores.
+pub fn put(words: &mut [u64], key: u64, value: u64, allowance: u32) -> Result<u32, Refused> {
+    // SAFETY: as in `format`.
+    stores(unsafe { page_index_put(words.as_mut_ptr(), words.len(), key, value, allowance) })
+}
+
+/// Takes the key's value away, and answers the number of stores, or `None` where it had none.
+pub fn remove(words: &mut [u64], key: u64, allowance: u32) -> Result<Option<u32>, Refused> {
+    // SAFETY: as in `format`.
+    let reply = unsafe { page_index_remove(words.as_mut_ptr(), words.len(), key, allowance) };
+    answered(reply).map(|done| done.map(|reply| reply.stores))
+}
+
+/// Takes back what a split that was cut off has left in the directory, and answers the number of
+/// stores: 0 where there was nothing to do.
+pub fn mend(words: &mut [u64], allowance: u32) -> Result<u32, Refused> {
+    // SAFETY: as in `format`.
+    stores(unsafe { page_index_mend(words.as_mut_ptr(), words.len(), allowance) })
+}
+
+/// Writes every record to the list array, each as key, then value, in an order that may differ from
+/// version to version, and answers how many there are. Words behind them stay.
+pub fn list(words: &[u64], list: &mut [u64]) -> Result<usize, Refused> {
+    // SAFETY: as in `format`; the borrow checker keeps the two slices apart.
+    let reply = unsafe { page_index_list(words.as_ptr(), words.len(), list.as_mut_ptr(), list.len()) };
+    answered(reply).map(|done| done.map_or(0, |reply| reply.value as usize))
+}

@@ -1,0 +1,220 @@
+//! Compares the compiled index with the model, call by call and word by word: random calls on arrays
+//! that runs of calls leave, on such arrays with damage, and on arrays of random words.
+mod model;
+
+use model::{Answer, Call, ABSENT, DONE};
+use page_index::Refused;
+
+/// A generator of 64-bit numbers (xorshift64*), so that a seed gives the same calls everywhere.
+struct Random(u64);
+
+impl Random {
+    fn next(&mut self) -> u64 {
+        self.0 ^= self.0 >> 12;
+        self.0 ^= self.0 << 25;
+        self.0 ^= self.0 >> 27;
+        self.0.wrapping_mul(0x2545_f491_4f6c_dd1d)
+    }
+
+    fn below(&mut self, n: u64) -> u64 {
+        self.next() % n
+    }
+
+    fn chance(&mut self, one_in: u64) -> bool {
+        self.below(one_in) == 0
+    }
+}
+
+/// How often each code came for each call.
+#[derive(Default)]
+struct Counts {
+    calls: u64,
+    cut: u64,
+    damaged: u64,
+    codes: std::collections::BTreeMap<(&'static str, u32), u64>,
+}
+
+fn name(call: Call) -> &'static str {
+    match call {
+        Call::Format(..) => "format",
+        Call::Get(..) => "get",
+        Call::Put(..) => "put",
+        Call::Remove(..) => "remove",
+        Call::Mend(..) => "mend",
+        Call::List => "list",
+    }
+}
+
+fn answer(result: Result<(u32, u32, u64), Refused>) -> Answer {
+    match result {
+        Ok((code, stores, value)) => Answer { code, stores, value },
+        Err(no) => Answer { code: no.refusal as u32, stores: no.stores, value: 0 },
+    }
+}
+
+/// The call made by the compiled index.
+fn made(words: &mut [u64], list: &mut [u64], call: Call) -> Answer {
+    answer(match call {
+        Call::Format(d, s, n) => page_index::format(words, d, s, n).map(|stores| (DONE, stores, 0)),
+        Call::Get(key) => page_index::get(words, key).map(|v| v.map_or((ABSENT, 0, 0), |v| (DONE, 0, v))),
+        Call::Put(key, value, n) => page_index::put(words, key, value, n).map(|stores| (DONE, stores, 0)),
+        Call::Remove(key, n) => page_index::remove(words, key, n).map(|s| s.map_or((ABSENT, 0, 0), |s| (DONE, s, 0))),
+        Call::Mend(n) => page_index::mend(words, n).map(|stores| (DONE, stores, 0)),
+        Call::List => page_index::list(words, list).map(|count| (DONE, 0, count as u64)),
+    })
+}
+
+/// The word that the list array holds where nothing was written.
+const UNWRITTEN: u64 = 0x1111_2222_3333_4444;
+
+/// Makes one call on both arrays and holds everything they leave against each other.
+fn compare(ours: &mut [u64], theirs: &mut [u64], call: Call, room: usize, counts: &mut Counts) -> Answer {
+    let mut list = vec![UNWRITTEN; room];
+    let mut records = Vec::new();
+    let got = made(ours, &mut list, call);
+    let due = model::perform(theirs, room, &mut records, call);
+    assert_eq!(got, due, "{call:?}: the answers differ");
+    assert!(ours == theirs, "{call:?}: the arrays differ after {got:?}");
+    let mut written: Vec<(u64, u64)> = list[..2 * records.len()].chunks(2).map(|r| (r[0], r[1])).collect();
+    written.sort_unstable();
+    records.sort_unstable();
+    assert_eq!(written, records, "{call:?}: the lists differ");
+    assert!(list[2 * records.len()..].iter().all(|&w| w == UNWRITTEN), "a word behind the list was written");
+    counts.calls += 1;
+    counts.cut += (got.code == model::CUT_OFF) as u64;
+    *counts.codes.entry((name(call), got.code)).or_default() += 1;
+    got
+}
+
+/// A key: running numbers, numbers that share a window, or any number, now and then 0.
+fn key(r: &mut Random) -> u64 {
+    match r.below(8) {
+        0..=2 => r.below(200),
+        3..=4 => 7 + 16 * r.below(100),
+        5 => 15 + 64 * r.below(40),
+        6 => 0xfff0 + r.below(16) + 65536 * r.below(5),
+        _ => r.next(),
+    }
+}
+
+fn allowance(r: &mut Random) -> u32 {
+    match r.below(4) {
+        0 => r.below(90) as u32,
+        1 => r.below(4) as u32,
+        _ => u32::MAX,
+    }
+}
+
+/// A key of a get or a remove: often one that was put.
+fn known(r: &mut Random, used: &[u64]) -> u64 {
+    if used.is_empty() || r.chance(3) {
+        return key(r);
+    }
+    used[r.below(used.len() as u64) as usize]
+}
+
+fn call(r: &mut Random, used: &mut Vec<u64>) -> Call {
+    match r.below(40) {
+        0 if r.chance(4) => Call::Format(r.below(15), r.below(20), allowance(r)),
+        0..=8 => Call::Get(known(r, used)),
+        9..=26 => {
+            let key = key(r);
+            used.push(key);
+            Call::Put(key, r.next(), allowance(r))
+        }
+        27..=32 => Call::Remove(known(r, used), allowance(r)),
+        33..=37 => Call::Mend(allowance(r)),
+        _ => Call::List,
+    }
+}
+
+/// A word 0, an entry or a record that is likely to be nearly right.
+fn damage(words: &mut [u64], r: &mut Random) {
+    if words.is_empty() {
+        return;
+    }
+    let at = match r.below(4) {
+        0 => 0,
+        1 => r.below(64.min(words.len() as u64)) as usize,
+        _ => r.below(words.len() as u64) as usize,
+    };
+    words[at] = match r.below(6) {
+        0 => r.next(),
+        1 => 0,
+        2 => words[at] ^ 1 << r.below(64),
+        3 => r.below(6) | r.below(5) << 32,
+        4 => key(r),
+        _ => words[r.below(words.len() as u64) as usize],
+    };
+}
+
+/// A run from a format on, of up to `steps` calls, with damage between them if asked.
+fn run(r: &mut Random, steps: u64, damaged: bool, counts: &mut Counts) {
+    let d = 2 + r.below(5);
+    let s = 1 + r.below((1 << d).min(24));
+    let needed = (2 << d) + 128 * s;
+    let size = match r.below(4) {
+        0 => needed + r.below(9),
+        1 if damaged => needed.saturating_sub(1 + r.below(3)),
+        _ => needed,
+    };
+    let mut ours: Vec<u64> = (0..size).map(|_| if r.chance(2) { 0 } else { r.next() }).collect();
+    let mut theirs = ours.clone();
+    compare(&mut ours, &mut theirs, Call::Format(d, s, u32::MAX), 0, counts);
+    let mut used = Vec::new();
+    for _ in 0..steps {
+        if damaged && r.chance(4) {
+            damage(&mut ours, r);
+            theirs.copy_from_slice(&ours);
+        }
+        let room = if r.chance(3) { r.below(40) as usize } else { 2 * 64 * 24 };
+        counts.damaged += damaged as u64;
+        let call = call(r, &mut used);
+        let got = compare(&mut ours, &mut theirs, call, room, counts);
+        if got.code == 1 && !damaged {
+            compare(&mut ours, &mut theirs, Call::Format(d, s, u32::MAX), 0, counts);
+        }
+    }
+}
+
+/// One call on an array of random words with a likely word 0, or with none.
+fn random_array(r: &mut Random, counts: &mut Counts) {
+    let d = r.below(14);
+    let s = r.below(20);
+    let size = r.below(3000);
+    let mut ours: Vec<u64> = (0..size).map(|_| if r.chance(3) { r.next() } else { r.below(20) | r.below(5) << 32 }).collect();
+    if let Some(first) = ours.first_mut() {
+        if !r.chance(10) {
+            *first = r.below(d + 2) | d << 8 | s << 16 | 0x5041_4745 << 32;
+        }
+    }
+    let mut theirs = ours.clone();
+    for _ in 0..3 {
+        counts.damaged += 1;
+        let room = r.below(4000) as usize;
+        compare(&mut ours, &mut theirs, call(r, &mut Vec::new()), room, counts);
+    }
+}
+
+/// Takes the number of runs for each seed as its argument.
+fn main() {
+    let rounds: u64 = std::env::args().nth(1).map_or(300, |n| n.parse().expect("a number of rounds"));
+    let seeds: Vec<u64> = (1..=8).map(|i| 0x9e37_79b9_7f4a_7c15u64.wrapping_mul(i)).collect();
+    let mut counts = Counts::default();
+    for &seed in &seeds {
+        println!("seed {seed:#x}");
+        let r = &mut Random(seed);
+        for _ in 0..rounds {
+            run(r, 600, false, &mut counts);
+            run(r, 300, true, &mut counts);
+        }
+        for _ in 0..30 * rounds {
+            random_array(r, &mut counts);
+        }
+    }
+    println!("calls {}, cut {}, on damaged or random arrays {}", counts.calls, counts.cut, counts.damaged);
+    for ((call, code), count) in &counts.codes {
+        println!("{call} {code}: {count}");
+    }
+    println!("no difference");
+}

@@ -1,0 +1,312 @@
+//! The six calls written from document 01 alone. A call is first a list of stores and a reply, both
+//! computed on a copy of the array; then as many of the stores as are allowed are made.
+
+pub const DONE: u32 = 0;
+pub const CUT_OFF: u32 = 7;
+pub const ABSENT: u32 = 255;
+
+const MARK: u64 = 0x5041_4745;
+
+/// One call with its arguments.
+#[derive(Clone, Copy, Debug)]
+pub enum Call {
+    Format(u64, u64, u32),
+    Get(u64),
+    Put(u64, u64, u32),
+    Remove(u64, u32),
+    Mend(u32),
+    List,
+}
+
+/// What a call answers.
+#[derive(Clone, Copy, Debug, PartialEq, Eq)]
+pub struct Answer {
+    pub code: u32,
+    pub stores: u32,
+    pub value: u64,
+}
+
+impl Answer {
+    fn plain(code: u32) -> Answer {
+        Answer { code, stores: 0, value: 0 }
+    }
+}
+
+/// G, D and S.
+#[derive(Clone, Copy)]
+struct Shape {
+    g: u32,
+    d: u32,
+    s: u64,
+}
+
+/// A directory entry taken apart.
+#[derive(Clone, Copy)]
+struct Entry {
+    segment: u64,
+    depth: u64,
+}
+
+/// A copy of the array with the stores that were made in it.
+struct Draft {
+    words: Vec<u64>,
+    due: Vec<(usize, u64)>,
+}
+
+impl Draft {
+    fn store(&mut self, at: usize, word: u64) {
+        self.due.push((at, word));
+        self.words[at] = word;
+    }
+}
+
+fn bytes_of(word: u64, first: u32, count: u32) -> u64 {
+    word >> first & ((1 << count) - 1)
+}
+
+fn shape(words: &[u64]) -> Option<Shape> {
+    let word = *words.first()?;
+    let (g, d, s) = (bytes_of(word, 0, 8) as u32, bytes_of(word, 8, 8) as u32, bytes_of(word, 16, 16));
+    let sound = word >> 32 == MARK && (2..=12).contains(&d) && g <= d && s >= 1 && s <= 1 << d;
+    (sound && words.len() as u64 >= (2 << d) + 128 * s).then_some(Shape { g, d, s })
+}
+
+/// The first `count` route bits of a key, in order.
+fn route(key: u64, count: u64) -> Vec<bool> {
+    (0..count).map(|i| key >> (4 + i) & 1 == 1).collect()
+}
+
+/// The bits of an index of `width` bits, the heaviest first.
+fn bits_of(index: usize, width: u32) -> Vec<bool> {
+    (0..width).rev().map(|i| index >> i & 1 == 1).collect()
+}
+
+fn number(bits: &[bool]) -> usize {
+    bits.iter().fold(0, |n, &bit| 2 * n + bit as usize)
+}
+
+fn entry(words: &[u64], shape: Shape, index: usize) -> Entry {
+    let word = words[(1 << shape.g) + index];
+    Entry { segment: word & 0xffff_ffff, depth: word >> 32 }
+}
+
+/// The walk: each block as its range of indices; or refusal 3; or 4 where an entry differs from its leader.
+fn walk(words: &[u64], shape: Shape) -> Result<Vec<std::ops::Range<usize>>, u32> {
+    let size = 1usize << shape.g;
+    let (mut blocks, mut at) = (Vec::new(), 0);
+    while at < size {
+        let e = entry(words, shape, at);
+        if e.depth > shape.g as u64 || e.segment >= shape.s {
+            return Err(3);
+        }
+        let width = size >> e.depth;
+        if at % width != 0 {
+            return Err(3);
+        }
+        blocks.push(at..at + width);
+        at += width;
+    }
+    let tidy = blocks.iter().all(|b| b.clone().all(|i| words[size + i] == words[size + b.start]));
+    if tidy { Ok(blocks) } else { Err(4) }
+}
+
+fn slot_address(shape: Shape, segment: u64, slot: usize) -> usize {
+    (2usize << shape.d) + 128 * segment as usize + 2 * slot
+}
+
+fn window(key: u64) -> impl Iterator<Item = usize> {
+    let first = 4 * (key % 16) as usize;
+    (0..16).map(move |i| (first + i) % 64)
+}
+
+/// The address of the key word of the first slot of the window that holds the key.
+fn hit(words: &[u64], shape: Shape, segment: u64, key: u64) -> Option<usize> {
+    window(key).map(|slot| slot_address(shape, segment, slot)).find(|&at| words[at] == key)
+}
+
+fn is_live(key: u64, block: &[bool]) -> bool {
+    key != 0 && route(key, block.len() as u64) == block
+}
+
+/// The tests of put and remove.
+fn checked(words: &[u64], key: u64) -> Result<Shape, u32> {
+    let shape = shape(words).ok_or(1u32)?;
+    if key == 0 {
+        return Err(2);
+    }
+    walk(words, shape).map(|_| shape)
+}
+
+fn format(draft: &mut Draft, d: u64, s: u64) -> u32 {
+    if !(2..=12).contains(&d) || s < 1 || s > 1 << d {
+        return 8;
+    }
+    if (draft.words.len() as u64) < (2 << d) + 128 * s {
+        return 9;
+    }
+    draft.store(0, 0);
+    draft.store(1, 0);
+    for slot in 0..64 {
+        draft.store((2 << d) + 2 * slot, 0);
+    }
+    draft.store(0, d << 8 | s << 16 | MARK << 32);
+    DONE
+}
+
+fn get(words: &[u64], key: u64) -> Result<Option<u64>, u32> {
+    let shape = shape(words).ok_or(1u32)?;
+    if key == 0 {
+        return Err(2);
+    }
+    let e = entry(words, shape, number(&route(key, shape.g as u64)));
+    if e.depth > shape.g as u64 || e.segment >= shape.s {
+        return Err(3);
+    }
+    Ok(hit(words, shape, e.segment, key).map(|at| words[at + 1]))
+}
+
+fn put(draft: &mut Draft, key: u64, value: u64) -> u32 {
+    loop {
+        let shape = match checked(&draft.words, key) {
+            Ok(shape) => shape,
+            Err(code) => return code,
+        };
+        let e = entry(&draft.words, shape, number(&route(key, shape.g as u64)));
+        if let Some(at) = hit(&draft.words, shape, e.segment, key) {
+            draft.store(at + 1, value);
+            return DONE;
+        }
+        let block = route(key, e.depth);
+        let usable = window(key)
+            .map(|slot| slot_address(shape, e.segment, slot))
+            .find(|&at| !is_live(draft.words[at], &block));
+        if let Some(at) = usable {
+            draft.store(at + 1, value);
+            draft.store(at, key);
+            return DONE;
+        }
+        if e.depth == shape.d as u64 {
+            return 5;
+        }
+        let named: Vec<u64> = (0..1 << shape.g).map(|i| entry(&draft.words, shape, i).segment).collect();
+        match (0..shape.s).find(|n| !named.contains(n)) {
+            Some(fresh) => split(draft, key, e, fresh),
+            None => return 6,
+        }
+    }
+}
+
+fn split(draft: &mut Draft, key: u64, e: Entry, fresh: u64) {
+    let mut shape = shape(&draft.words).expect("the tests have passed");
+    if e.depth == shape.g as u64 {
+        let size = 1usize << shape.g;
+        for i in 0..2 * size {
+            draft.store(2 * size + i, draft.words[size + i / 2]);
+        }
+        draft.store(0, draft.words[0] + 1);
+        shape.g += 1;
+    }
+    let block = route(key, e.depth);
+    for slot in 0..64 {
+        let (old, new) = (slot_address(shape, e.segment, slot), slot_address(shape, fresh, slot));
+        let moved = draft.words[old];
+        if is_live(moved, &block) && route(moved, e.depth + 1)[e.depth as usize] {
+            draft.store(new + 1, draft.words[old + 1]);
+            draft.store(new, moved);
+        } else {
+            draft.store(new, 0);
+        }
+    }
+    let size = 1usize << shape.g;
+    for i in (0..size).rev() {
+        let bits = bits_of(i, shape.g);
+        if bits[..e.depth as usize] == block[..] {
+            let half = if bits[e.depth as usize] { fresh } else { e.segment };
+            draft.store(size + i, half | (e.depth + 1) << 32);
+        }
+    }
+}
+
+fn remove(draft: &mut Draft, key: u64) -> u32 {
+    let shape = match checked(&draft.words, key) {
+        Ok(shape) => shape,
+        Err(code) => return code,
+    };
+    let e = entry(&draft.words, shape, number(&route(key, shape.g as u64)));
+    match hit(&draft.words, shape, e.segment, key) {
+        Some(at) => {
+            draft.store(at, 0);
+            DONE
+        }
+        None => ABSENT,
+    }
+}
+
+fn mend(draft: &mut Draft) -> u32 {
+    let Some(shape) = shape(&draft.words) else { return 1 };
+    let size = 1usize << shape.g;
+    if walk(&draft.words, shape) == Err(3) {
+        return 3;
+    }
+    let mut leader = 0;
+    for i in 0..size {
+        let width = size >> entry(&draft.words, shape, leader).depth;
+        if i == leader + width {
+            leader = i;
+        } else if draft.words[size + i] != draft.words[size + leader] {
+            draft.store(size + i, draft.words[size + leader]);
+        }
+    }
+    DONE
+}
+
+/// The records of the walk's segments.
+fn records(words: &[u64]) -> Result<Vec<(u64, u64)>, u32> {
+    let shape = shape(words).ok_or(1u32)?;
+    let mut found = Vec::new();
+    for block in walk(words, shape)? {
+        let e = entry(words, shape, block.start);
+        let bits = bits_of(block.start, shape.g)[..e.depth as usize].to_vec();
+        for slot in 0..64 {
+            let at = slot_address(shape, e.segment, slot);
+            if is_live(words[at], &bits) {
+                found.push((words[at], words[at + 1]));
+            }
+        }
+    }
+    Ok(found)
+}
+
+/// Makes a call on the array; `list` takes the records of a done list.
+pub fn perform(words: &mut [u64], room: usize, list: &mut Vec<(u64, u64)>, call: Call) -> Answer {
+    let mut draft = Draft { words: words.to_vec(), due: Vec::new() };
+    let (code, allowance) = match call {
+        Call::Get(key) => {
+            return match get(words, key) {
+                Ok(Some(value)) => Answer { code: DONE, stores: 0, value },
+                Ok(None) => Answer::plain(ABSENT),
+                Err(code) => Answer::plain(code),
+            }
+        }
+        Call::List => {
+            return match records(words) {
+                Err(code) => Answer::plain(code),
+                Ok(found) if room < 2 * found.len() => Answer::plain(10),
+                Ok(found) => {
+                    *list = found;
+                    Answer { code: DONE, stores: 0, value: list.len() as u64 }
+                }
+            }
+        }
+        Call::Format(d, s, n) => (format(&mut draft, d, s), n),
+        Call::Put(key, value, n) => (put(&mut draft, key, value), n),
+        Call::Remove(key, n) => (remove(&mut draft, key), n),
+        Call::Mend(n) => (mend(&mut draft), n),
+    };
+    let made = draft.due.len().min(allowance as usize);
+    for &(at, word) in &draft.due[..made] {
+        words[at] = word;
+    }
+    let code = if made < draft.due.len() { CUT_OFF } else { code };
+    Answer { code, stores: made as u32, value: 0 }
+}

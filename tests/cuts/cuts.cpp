@@ -1,0 +1,329 @@
+// Power cuts for real. A child process makes calls on an index in a memory-mapped file and writes
+// each call to a pipe before it begins and after it was answered. The parent kills it at a random
+// moment, maps the file again, mends, and checks every key against the acknowledged calls; the call
+// in flight may have happened or not. Built with -DFAULT=NAME it runs the twin with that fault in
+// the place of the library, and must find pages lost or invented, or an index that cannot be mended.
+//
+//     cuts FILE SEED
+#include "../../bindings/c/page_index.h"
+#include "../twin/twin.hpp"
+
+#include <fcntl.h>
+#include <signal.h>
+#include <sys/mman.h>
+#include <sys/wait.h>
+#include <unistd.h>
+
+#include <algorithm>
+#include <cstdio>
+#include <cstdlib>
+#include <cstring>
+#include <ctime>
+#include <map>
+#include <random>
+#include <string>
+#include <vector>
+
+namespace {
+
+using twin::word;
+using Words = std::vector<word>;
+
+constexpr word depth = 12, segments = 64;
+constexpr std::size_t size = (2u << depth) + 128 * segments;
+constexpr std::uint32_t all = 0xffffffff;
+constexpr int wanted_kills = 1000, wanted_inside = 100, wanted_mends = 30, most_kills = 20000;
+
+void fail(const char *what) {
+    std::perror(what);
+    std::exit(2);
+}
+
+// One call of the child, and whether it is announced or answered.
+struct Message {
+    word kind, key, value, answered;
+};
+
+constexpr word put = 1, take = 2;
+
+#ifdef FAULT
+using Faulty = twin::Index<twin::NoLog, twin::Fault::FAULT>;
+std::uint32_t make(word *words, const Message &m) {
+    Faulty index(words, size);
+    return (m.kind == put ? index.put(m.key, m.value, all) : index.remove(m.key, all)).code;
+}
+#else
+std::uint32_t make(word *words, const Message &m) {
+    return (m.kind == put ? page_index_put(words, size, m.key, m.value, all) : page_index_remove(words, size, m.key, all)).code;
+}
+#endif
+
+// The stores of a call, in order, by the twin.
+struct Log {
+    std::vector<std::pair<std::size_t, word>> *stores;
+    void store(std::size_t at, word value) { stores->emplace_back(at, value); }
+};
+
+std::vector<std::pair<std::size_t, word>> stores_of(Words words, const Message &m) {
+    std::vector<std::pair<std::size_t, word>> stores;
+    twin::Index<Log> index(words.data(), words.size(), Log{&stores});
+    if (m.kind == put)
+        index.put(m.key, m.value, all);
+    else
+        index.remove(m.key, all);
+    return stores;
+}
+
+using Table = std::map<word, word>;
+
+// An index to begin from, what it holds, and the puts that split its segments.
+struct Scene {
+    Words image = Words(size, 0);
+    Table table;
+    std::vector<word> splitting;
+    double longest = 0;
+
+    void add(word key, word value) {
+        if (page_index_put(image.data(), size, key, value, all).code != PAGE_INDEX_DONE) fail("prepare");
+        table[key] = value;
+    }
+
+    // A directory of depth 12 with one block at each smaller depth: the block of depth k + 1 has the
+    // keys whose directory bits begin with k ones and a zero.
+    Scene() {
+        page_index_format(image.data(), size, depth, segments, all);
+        for (word h = 0; h < 4; h++)
+            for (word b = 0; b < 16; b++) add(h * 65536 + 0xfff0 + b, 1000 + b);
+        add(5 * 65536 + 0x7ff0, 7);
+    }
+};
+
+// Wide blocks full of keys that share twelve directory bits: one more key makes a put of many splits.
+Scene many_splits() {
+    Scene scene;
+    for (int k = 0; k < 5; k++) {
+        word bits = 0xfff0 - (16u << k);
+        for (word h = 0; h < 4; h++)
+            for (word b = 0; b < 16; b++) scene.add(h * 65536 + bits + b, 100 * k + b);
+        scene.splitting.push_back(5 * 65536 + bits - 0x8000);
+    }
+    return scene;
+}
+
+// Wide blocks full of keys that part at the next bit: one more key makes a put of one split, most of
+// whose stores are those of the entries.
+Scene one_split() {
+    Scene scene;
+    for (int k = 0; k < 2; k++) {
+        word bits = (1u << 20) + (16u << k) - 16;
+        for (word h = 0; h < 4; h++)
+            for (word b = 0; b < 16; b++) scene.add(bits + (h << (k + 5)) + b, 100 * k + b);
+        scene.splitting.push_back(bits + (4u << (k + 5)));
+    }
+    return scene;
+}
+
+// The calls of one child: the puts that split, in some order, each with smaller calls behind it.
+constexpr std::size_t group = 4;
+
+std::vector<Message> work(const Scene &scene, std::mt19937_64 &random) {
+    std::vector<word> keys;
+    for (const auto &[key, value] : scene.table) keys.push_back(key);
+    std::vector<word> order = scene.splitting;
+    std::shuffle(order.begin(), order.end(), random);
+    std::vector<Message> calls;
+    for (word key : order) {
+        calls.push_back({put, key, random(), 0});
+        calls.push_back({put, keys[random() % keys.size()], random(), 0});
+        calls.push_back({take, keys[random() % keys.size()], 0, 0});
+        calls.push_back({put, 3 + 16 * (random() % 512), random(), 0});
+    }
+    return calls;
+}
+
+word *map_file(int fd) {
+    void *at = mmap(nullptr, size * sizeof(word), PROT_READ | PROT_WRITE, MAP_SHARED, fd, 0);
+    if (at == MAP_FAILED) fail("mmap");
+    return static_cast<word *>(at);
+}
+
+void tell(int pipe, Message m, word answered) {
+    m.answered = answered;
+    if (write(pipe, &m, sizeof m) != sizeof m) _exit(3);
+}
+
+[[noreturn]] void child(int fd, int pipe, const std::vector<Message> &calls) {
+    word *words = map_file(fd);
+    for (const Message &m : calls) {
+        tell(pipe, m, 0);
+        make(words, m);
+        tell(pipe, m, 1);
+    }
+    _exit(0);
+}
+
+double now() {
+    timespec t;
+    clock_gettime(CLOCK_MONOTONIC, &t);
+    return t.tv_sec + t.tv_nsec * 1e-9;
+}
+
+struct Counts {
+    int kills = 0, in_call = 0, inside = 0, mends = 0;
+    long acknowledged = 0, checked = 0, lost = 0, invented = 0, other_stores = 0, unmendable = 0;
+};
+
+// What the pipe has said so far.
+struct Heard {
+    std::vector<Message> answered;
+    bool in_flight = false;
+    Message flying{};
+    std::size_t announced = 0;
+
+    // Hears one message; false where the pipe has ended.
+    bool hear(int pipe) {
+        Message m;
+        if (read(pipe, &m, sizeof m) != sizeof m) return false;
+        in_flight = !m.answered;
+        announced += !m.answered;
+        if (m.answered)
+            answered.push_back(m);
+        else
+            flying = m;
+        return true;
+    }
+};
+
+// Whether the file holds what some number of the call's stores leave; says whether it is some but not all.
+bool is_prefix(const Words &before, const word *file, const Message &m, bool &inside) {
+    auto stores = stores_of(before, m);
+    Words words = before;
+    std::size_t wrong = 0;
+    for (std::size_t i = 0; i < size; i++) wrong += words[i] != file[i];
+    std::size_t made = 0;
+    for (; wrong != 0 && made < stores.size(); made++) {
+        auto [at, value] = stores[made];
+        wrong -= words[at] != file[at];
+        words[at] = value;
+        wrong += words[at] != file[at];
+    }
+    inside = wrong == 0 && 0 < made && made < stores.size();
+    return wrong == 0;
+}
+
+void record(Table &table, const Message &m) {
+    if (m.kind == put)
+        table[m.key] = m.value;
+    else
+        table.erase(m.key);
+}
+
+// Every key that was ever used, against the table before the call in flight or after it.
+void check(const word *file, const Table &before, const Table &after, const Table &used, Counts &counts) {
+    for (const auto &[key, unused] : used) {
+        (void)unused;
+        page_index_reply got = page_index_get(file, size, key);
+        auto says = [&](const Table &table) {
+            auto at = table.find(key);
+            if (at == table.end()) return got.code == PAGE_INDEX_ABSENT;
+            return got.code == PAGE_INDEX_DONE && got.value == at->second;
+        };
+        counts.checked++;
+        if (says(before) || says(after)) continue;
+        (before.count(key) ? counts.lost : counts.invented)++;
+    }
+}
+
+// One child, one kill, one look at the file.
+void cut(int fd, const Scene &scene, std::mt19937_64 &random, Counts &counts) {
+    word *words = map_file(fd);
+    std::memcpy(words, scene.image.data(), size * sizeof(word));
+    munmap(words, size * sizeof(word));
+    std::vector<Message> calls = work(scene, random);
+    int ends[2];
+    if (pipe(ends) != 0) fail("pipe");
+    pid_t pid = fork();
+    if (pid < 0) fail("fork");
+    if (pid == 0) child(fd, ends[1], calls);
+    close(ends[1]);
+    // The kill comes some time after a random call was announced, mostly one that splits.
+    std::size_t target = random() % 4 ? random() % scene.splitting.size() * group : random() % calls.size();
+    Heard heard;
+    while (heard.announced <= target && heard.hear(ends[0])) {
+    }
+    double until = now() + scene.longest * (random() % 1000000) / 1e6;
+    while (now() < until) {
+    }
+    kill(pid, SIGKILL);
+    int status;
+    waitpid(pid, &status, 0);
+    while (heard.hear(ends[0])) {
+    }
+    close(ends[0]);
+    if (!WIFSIGNALED(status)) return;
+    counts.kills++;
+    counts.in_call += heard.in_flight;
+    counts.acknowledged += long(heard.answered.size());
+
+    Words before = scene.image;
+    Table told = scene.table, used = scene.table;
+    for (const Message &m : calls) used[m.key] = 0;
+    for (const Message &m : heard.answered) {
+        make(before.data(), m);
+        record(told, m);
+    }
+    Table either = told;
+    words = map_file(fd);
+    bool inside = false;
+    if (heard.in_flight) {
+        record(either, heard.flying);
+        if (!is_prefix(before, words, heard.flying, inside)) counts.other_stores++;
+    } else if (std::memcmp(before.data(), words, size * sizeof(word)) != 0) {
+        counts.other_stores++;
+    }
+    counts.inside += inside;
+    page_index_reply mended = page_index_mend(words, size, all);
+    counts.mends += mended.stores > 0;
+    counts.unmendable += mended.code != PAGE_INDEX_DONE;
+    check(words, told, either, used, counts);
+    munmap(words, size * sizeof(word));
+}
+
+// How long a put that splits takes, and somewhat more.
+double measure(const Scene &scene) {
+    Words words = scene.image;
+    double start = now();
+    for (word key : scene.splitting) make(words.data(), {put, key, 1, 0});
+    return 1.3 * (now() - start) / double(scene.splitting.size());
+}
+
+}  // namespace
+
+int main(int count, char **arguments) {
+    if (count != 3) return std::fputs("cuts FILE SEED\n", stderr), 2;
+    std::mt19937_64 random(std::stoull(arguments[2]));
+    int fd = open(arguments[1], O_RDWR | O_CREAT | O_TRUNC, 0600);
+    if (fd < 0 || ftruncate(fd, size * sizeof(word)) != 0) fail(arguments[1]);
+    Scene scenes[] = {many_splits(), one_split()};
+    for (Scene &scene : scenes) scene.longest = measure(scene);
+    Counts c;
+    auto wanted = [&c] {
+#ifdef FAULT
+        return c.lost + c.invented + c.unmendable < 10;
+#else
+        return c.kills < wanted_kills || c.inside < wanted_inside || c.mends < wanted_mends;
+#endif
+    };
+    while (c.kills < most_kills && wanted())
+        cut(fd, scenes[random() % 4 != 0], random, c);
+    std::printf("seed %s, kills %d, during a call %d, between its first and last store %d, mends that made a store %d\n",
+                arguments[2], c.kills, c.in_call, c.inside, c.mends);
+    std::printf("acknowledged calls %ld, lookups %ld: pages lost %ld, invented %ld, not mendable %ld, stores out of order %ld\n",
+                c.acknowledged, c.checked, c.lost, c.invented, c.unmendable, c.other_stores);
+#ifdef FAULT
+    return c.lost + c.invented + c.unmendable > 0 ? 0 : 1;
+#else
+    bool reached = c.kills >= wanted_kills && c.inside >= wanted_inside && c.mends >= wanted_mends;
+    return reached && c.lost + c.invented + c.unmendable + c.other_stores == 0 ? 0 : 1;
+#endif
+}

@@ -1,0 +1,201 @@
+// The order of the compiled stores. Each call of the library runs in a child one instruction at a
+// time; after every instruction the parent looks for words of the array that have changed. The
+// changes, in the order seen, must be the stores of the defined plan (by the twin, which the
+// comparison tests hold against the rules) that change a word, one for each instruction.
+#include "../../bindings/c/page_index.h"
+#include "../twin/twin.hpp"
+
+#include <sys/mman.h>
+#include <sys/ptrace.h>
+#include <sys/wait.h>
+#include <unistd.h>
+
+#include <cstdio>
+#include <cstdlib>
+#include <cstring>
+#include <functional>
+#include <string>
+#include <vector>
+
+namespace {
+
+using twin::word;
+using Words = std::vector<word>;
+using Change = std::pair<std::size_t, word>;
+
+constexpr std::size_t size = 520;  // D = 2, S = 4
+constexpr std::uint32_t all = 0xffffffff;
+
+void fail(const char *what) {
+    std::perror(what);
+    std::exit(2);
+}
+
+struct Log {
+    std::vector<Change> *stores;
+    void store(std::size_t at, word value) { stores->emplace_back(at, value); }
+};
+
+using Logged = twin::Index<Log>;
+using KeyFirst = twin::Index<Log, twin::Fault::key_first>;
+using LeftToRight = twin::Index<Log, twin::Fault::entries_left_to_right>;
+
+// One case: the array before the call, the call of the library, and the stores of the same call by
+// the twin. Where the twin has a fault, the two must differ.
+struct Case {
+    std::string name;
+    Words before;
+    std::function<page_index_reply(word *)> call;
+    std::function<void(word *, Log)> defined;
+    bool differs = false;
+};
+
+// The stores of the plan that change the word they go to; the others cannot be seen.
+std::vector<Change> visible(const Case &c, std::size_t &due) {
+    Words words = c.before;
+    std::vector<Change> stores;
+    c.defined(words.data(), Log{&stores});
+    due = stores.size();
+    Words now = c.before;
+    std::vector<Change> seen;
+    for (auto [at, value] : stores) {
+        if (now[at] != value) seen.emplace_back(at, value);
+        now[at] = value;
+    }
+    return seen;
+}
+
+// Runs the call one instruction at a time. `merged` counts instructions that change more than one word.
+std::vector<Change> stepped(const Case &c, word *shared, long &instructions, int &merged) {
+    std::memcpy(shared, c.before.data(), size * sizeof(word));
+    pid_t pid = fork();
+    if (pid < 0) fail("fork");
+    if (pid == 0) {
+        ptrace(PTRACE_TRACEME, 0, nullptr, nullptr);
+        raise(SIGSTOP);
+        c.call(shared);
+        _exit(0);
+    }
+    int status;
+    waitpid(pid, &status, 0);
+    Words last = c.before;
+    std::vector<Change> seen;
+    for (;;) {
+        if (ptrace(PTRACE_SINGLESTEP, pid, nullptr, nullptr) != 0) fail("ptrace");
+        waitpid(pid, &status, 0);
+        if (WIFEXITED(status)) return seen;
+        if (!WIFSTOPPED(status)) fail("child");
+        instructions++;
+        if (std::memcmp(last.data(), shared, size * sizeof(word)) == 0) continue;
+        int changes = 0;
+        for (std::size_t i = 0; i < size; i++) {
+            if (last[i] == shared[i]) continue;
+            seen.emplace_back(i, shared[i]);
+            last[i] = shared[i];
+            changes++;
+        }
+        merged += changes > 1;
+    }
+}
+
+bool passes(const Case &c, word *shared) {
+    std::size_t due = 0;
+    long instructions = 0;
+    int merged = 0;
+    std::vector<Change> expected = visible(c, due);
+    std::vector<Change> seen = stepped(c, shared, instructions, merged);
+    bool same = seen == expected;
+    std::printf("%-40s stores due %3zu, seen %3zu, instructions %5ld, that change two words %d: %s\n", c.name.c_str(),
+                due, seen.size(), instructions, merged, same && merged == 0 ? "in order" : "NOT IN ORDER");
+    for (std::size_t i = 0; !same && !c.differs && i < expected.size() && i < seen.size(); i++) {
+        if (seen[i] == expected[i]) continue;
+        std::printf("  first difference at change %zu: word %zu := %#lx, due word %zu := %#lx\n", i, seen[i].first,
+                    seen[i].second, expected[i].first, expected[i].second);
+        break;
+    }
+    return (same && merged == 0) != c.differs;
+}
+
+// Words that differ from what any call stores, so that every first store to a word is seen.
+Words junk() {
+    Words words(size);
+    for (std::size_t i = 0; i < size; i++) words[i] = 0xabcd000000000000 + i;
+    return words;
+}
+
+// Sixteen keys that share their window, which is then full.
+Words full() {
+    Words words = junk();
+    page_index_format(words.data(), size, 2, 4, all);
+    for (word i = 0; i < 16; i++) page_index_put(words.data(), size, 7 + 16 * i, 70 + i, all);
+    return words;
+}
+
+Words cut_split(std::uint32_t allowance) {
+    Words words = full();
+    page_index_put(words.data(), size, 263, 1, allowance);
+    return words;
+}
+
+// Puts keys `step` apart until the next one makes a split, and answers that one.
+word fill(Words &words, word key, word step) {
+    for (;; key += step) {
+        Words copy = words;
+        if (page_index_put(copy.data(), size, key, 1, all).stores > 2) return key;
+        words = copy;
+    }
+}
+
+Case put_case(const char *name, const Words &before, word key, std::uint32_t allowance = all) {
+    return {name, before, [=](word *w) { return page_index_put(w, size, key, 1, allowance); },
+            [=](word *w, Log log) { Logged(w, size, log).put(key, 1, allowance); }};
+}
+
+Case format_case(const char *name, std::uint32_t allowance) {
+    return {name, junk(), [=](word *w) { return page_index_format(w, size, 2, 4, allowance); },
+            [=](word *w, Log log) { Logged(w, size, log).format(2, 4, allowance); }};
+}
+
+// A put held against a twin with a fault.
+template <class Faulty>
+Case fault_case(const char *name, const Words &before, word key) {
+    return {name, before, [=](word *w) { return page_index_put(w, size, key, 1, all); },
+            [=](word *w, Log log) { Faulty(w, size, log).put(key, 1, all); }, true};
+}
+
+std::vector<Case> cases() {
+    Words formatted = junk();
+    page_index_format(formatted.data(), size, 2, 4, all);
+    // Two splits of the block of directory bit 0, then the wide block of directory bit 1 full.
+    Words wide = full();
+    page_index_put(wide.data(), size, 263, 1, all);
+    page_index_put(wide.data(), size, fill(wide, 7, 32), 1, all);
+    word last = fill(wide, 23, 32);
+    return {
+        format_case("format", all),
+        format_case("format, 40 stores allowed", 40),
+        put_case("put of a new page", formatted, 7),
+        put_case("put of a known page", full(), 23),
+        put_case("put with a split and a doubling", full(), 263),
+        put_case("put with a split alone", wide, last),
+        put_case("put, 60 stores allowed", full(), 263, 60),
+        {"remove", full(), [](word *w) { return page_index_remove(w, size, 39, all); },
+         [](word *w, Log log) { Logged(w, size, log).remove(39, all); }},
+        {"mend", cut_split(76), [](word *w) { return page_index_mend(w, size, all); },
+         [](word *w, Log log) { Logged(w, size, log).mend(all); }},
+        {"get", full(), [](word *w) { return page_index_get(w, size, 39); },
+         [](word *w, Log log) { Logged(w, size, log).get(39); }},
+        fault_case<KeyFirst>("against a twin that stores the key first", formatted, 7),
+        fault_case<LeftToRight>("against entries from left to right", full(), 263),
+    };
+}
+
+}  // namespace
+
+int main() {
+    void *at = mmap(nullptr, size * sizeof(word), PROT_READ | PROT_WRITE, MAP_SHARED | MAP_ANONYMOUS, -1, 0);
+    if (at == MAP_FAILED) fail("mmap");
+    bool sound = true;
+    for (const Case &c : cases()) sound = passes(c, static_cast<word *>(at)) && sound;
+    return sound ? 0 : 1;
+}

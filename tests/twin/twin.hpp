@@ -1,0 +1,301 @@
+// The page index written by hand in C++: the same scheme, the same stores in the same order, no
+// proofs. The tests compare with it and put faults into it; the benchmark races it.
+#pragma once
+#include <cstddef>
+#include <cstdint>
+
+namespace twin {
+
+using word = std::uint64_t;
+
+enum Code : std::uint32_t {
+    done = 0,
+    no_store = 1,
+    no_key = 2,
+    broken = 3,
+    unmended = 4,
+    too_deep = 5,
+    no_segment = 6,
+    cut_off = 7,
+    bad_shape = 8,
+    too_short = 9,
+    short_list = 10,
+    absent = 255,
+};
+
+struct Answer {
+    std::uint32_t code;
+    std::uint32_t stores;
+    word value;
+};
+
+// Faults that a test can put in: key before value, entries from left to right, and records cleared in
+// the old segment before the entries name the new one.
+enum class Fault { none, key_first, entries_left_to_right, moved_records_cleared };
+
+constexpr word mark = 0x50414745;
+constexpr unsigned segment_words = 128;
+constexpr unsigned slots = 64;
+
+// A store log that keeps nothing.
+struct NoLog {
+    void store(std::size_t, word) {}
+};
+
+template <class Log = NoLog, Fault fault = Fault::none>
+class Index {
+  public:
+    Index(word *words, std::size_t length, Log log = Log()) : w(words), n(length), log(log) {}
+
+    Answer format(word d, word s, std::uint32_t allowance) {
+        if (d < 2 || d > 12 || s < 1 || s > (word(1) << d)) return refuse(bad_shape);
+        if (n < (std::size_t(2) << d) + segment_words * s) return refuse(too_short);
+        begin(allowance);
+        store(0, 0);
+        store(1, 0);
+        std::size_t base = std::size_t(2) << d;
+        for (unsigned j = 0; j < slots; j++) store(base + 2 * j, 0);
+        store(0, d << 8 | s << 16 | mark << 32);
+        return end(done);
+    }
+
+    Answer get(word key) const {
+        if (!valid()) return refuse(no_store);
+        if (key == 0) return refuse(no_key);
+        word e = w[(std::size_t(1) << g) + route(key, g)];
+        if (e >> 32 > g || std::uint32_t(e) >= s) return refuse(broken);
+        const word *at = find(segment(std::uint32_t(e)), key);
+        return at == nullptr ? refuse(absent) : Answer{done, 0, at[1]};
+    }
+
+    Answer put(word key, word value, std::uint32_t allowance) {
+        begin(allowance);
+        for (;;) {
+            if (std::uint32_t no = check(key)) return end(no);
+            std::size_t i = route(key, g);
+            word e = w[(std::size_t(1) << g) + i];
+            unsigned l = unsigned(e >> 32);
+            word *base = segment(std::uint32_t(e));
+            if (word *at = find(base, key)) {
+                store(at + 1 - w, value);
+                return end(done);
+            }
+            if (word *at = usable(base, key, l, i >> (g - l))) {
+                store_record(at - w, key, value);
+                return end(done);
+            }
+            if (l == d) return end(too_deep);
+            std::uint32_t fresh = free_segment();
+            if (fresh == s) return end(no_segment);
+            split(i, std::uint32_t(e), l, fresh);
+            if (due > allowed) return end(cut_off);
+        }
+    }
+
+    Answer remove(word key, std::uint32_t allowance) {
+        begin(allowance);
+        if (std::uint32_t no = check(key)) return refuse(no);
+        word e = w[(std::size_t(1) << g) + route(key, g)];
+        word *at = find(segment(std::uint32_t(e)), key);
+        if (at == nullptr) return refuse(absent);
+        store(at - w, 0);
+        return end(done);
+    }
+
+    Answer mend(std::uint32_t allowance) {
+        begin(allowance);
+        if (!valid()) return refuse(no_store);
+        if (scan() == broken) return refuse(broken);
+        word *entries = w + (std::size_t(1) << g);
+        std::size_t count = std::size_t(1) << g;
+        for (std::size_t i = 0; i < count;) {
+            std::size_t width = std::size_t(1) << (g - unsigned(entries[i] >> 32));
+            for (std::size_t j = i + 1; j < i + width; j++)
+                if (entries[j] != entries[i]) store(count + j, entries[i]);
+            i += width;
+        }
+        return end(done);
+    }
+
+    Answer list(word *out, std::size_t room) const {
+        if (!valid()) return refuse(no_store);
+        if (std::uint32_t no = scan()) return refuse(no);
+        std::size_t records = walk([](word, word) {});
+        if (room < 2 * records) return refuse(short_list);
+        walk([&out](word key, word value) {
+            *out++ = key;
+            *out++ = value;
+        });
+        return Answer{done, 0, records};
+    }
+
+  private:
+    word *w;
+    std::size_t n;
+    [[no_unique_address]] Log log;
+    mutable unsigned g = 0, d = 0;
+    mutable std::uint32_t s = 0;
+    std::uint64_t due = 0;
+    std::uint32_t allowed = 0;
+
+    static Answer refuse(std::uint32_t code) { return Answer{code, 0, 0}; }
+
+    void begin(std::uint32_t allowance) {
+        due = 0;
+        allowed = allowance;
+    }
+
+    Answer end(std::uint32_t code) const {
+        if (due > allowed) return Answer{cut_off, allowed, 0};
+        return Answer{code, std::uint32_t(due), 0};
+    }
+
+    void store(std::size_t i, word value) {
+        if (due++ < allowed) {
+            log.store(i, value);
+            w[i] = value;
+        }
+    }
+
+    void store_record(std::size_t at, word key, word value) {
+        if constexpr (fault == Fault::key_first) {
+            store(at, key);
+            store(at + 1, value);
+        } else {
+            store(at + 1, value);
+            store(at, key);
+        }
+    }
+
+    bool valid() const {
+        if (n == 0) return false;
+        g = w[0] & 255;
+        d = w[0] >> 8 & 255;
+        s = w[0] >> 16 & 65535;
+        return w[0] >> 32 == mark && d - 2 <= 10 && g <= d && s - 1 < (1u << d) &&
+               n >= (std::size_t(2) << d) + std::size_t(segment_words) * s;
+    }
+
+    word *segment(std::uint32_t number) const {
+        return w + (std::size_t(2) << d) + std::size_t(segment_words) * number;
+    }
+
+    // The first `count` directory bits of a key, the first one heaviest: 16 bits turned round.
+    static std::size_t route(word key, unsigned count) {
+        std::uint32_t r = key >> 4 & 0xffff;
+        r = (r & 0x5555) << 1 | (r >> 1 & 0x5555);
+        r = (r & 0x3333) << 2 | (r >> 2 & 0x3333);
+        r = (r & 0x0f0f) << 4 | (r >> 4 & 0x0f0f);
+        r = (r & 0x00ff) << 8 | r >> 8;
+        return r >> (16 - count);
+    }
+
+    static word *find(word *base, word key) {
+        for (unsigned b = 0; b < 4; b++) {
+            word *bucket = base + (key + b) % 16 * 8;
+            for (unsigned j = 0; j < 8; j += 2)
+                if (bucket[j] == key) return bucket + j;
+        }
+        return nullptr;
+    }
+
+    static word *usable(word *base, word key, unsigned l, std::size_t bits) {
+        for (unsigned b = 0; b < 4; b++) {
+            word *bucket = base + (key + b) % 16 * 8;
+            for (unsigned j = 0; j < 8; j += 2)
+                if (bucket[j] == 0 || route(bucket[j], l) != bits) return bucket + j;
+        }
+        return nullptr;
+    }
+
+    std::uint32_t check(word key) const {
+        if (!valid()) return no_store;
+        if (key == 0) return no_key;
+        return scan();
+    }
+
+    std::uint32_t scan() const {
+        const word *entries = w + (std::size_t(1) << g);
+        std::size_t count = std::size_t(1) << g;
+        bool consistent = true;
+        for (std::size_t i = 0; i < count;) {
+            word leader = entries[i];
+            if (leader >> 32 > g || std::uint32_t(leader) >= s) return broken;
+            std::size_t width = std::size_t(1) << (g - unsigned(leader >> 32));
+            if (i & (width - 1)) return broken;
+            for (std::size_t j = i + 1; j < i + width; j++) consistent &= entries[j] == leader;
+            i += width;
+        }
+        return consistent ? done : unmended;
+    }
+
+    // As the proved index searches: each number in turn against every entry.
+    std::uint32_t free_segment() const {
+        const word *entries = w + (std::size_t(1) << g);
+        std::size_t count = std::size_t(1) << g;
+        for (std::uint32_t number = 0; number < s; number++) {
+            std::size_t i = 0;
+            while (i < count && std::uint32_t(entries[i]) != number) i++;
+            if (i == count) return number;
+        }
+        return s;
+    }
+
+    void double_directory() {
+        std::size_t count = std::size_t(2) << g;
+        for (std::size_t e = 0; e < count; e++) store(count + e, w[count / 2 + e / 2]);
+        store(0, w[0] + 1);
+        g++;
+    }
+
+    void split(std::size_t i, std::uint32_t number, unsigned l, std::uint32_t fresh) {
+        std::size_t bits = i >> (g - l);
+        if (l == g) {
+            double_directory();
+            i = 2 * i;
+        }
+        const word *from = segment(number);
+        std::size_t to = segment(fresh) - w;
+        for (unsigned j = 0; j < slots; j++) {
+            word key = from[2 * j];
+            if (key != 0 && route(key, l) == bits && (key >> (4 + l) & 1)) {
+                store(to + 2 * j + 1, from[2 * j + 1]);
+                store(to + 2 * j, key);
+                if constexpr (fault == Fault::moved_records_cleared) store(from + 2 * j - w, 0);
+            } else {
+                store(to + 2 * j, 0);
+            }
+        }
+        std::size_t half = std::size_t(1) << (g - l - 1);
+        std::size_t start = (std::size_t(1) << g) + (i & ~(2 * half - 1));
+        word left = number | word(l + 1) << 32, right = fresh | word(l + 1) << 32;
+        if constexpr (fault == Fault::entries_left_to_right) {
+            for (std::size_t e = 0; e < half; e++) store(start + e, left);
+            for (std::size_t e = half; e < 2 * half; e++) store(start + e, right);
+        } else {
+            for (std::size_t e = 2 * half; e-- > half;) store(start + e, right);
+            for (std::size_t e = half; e-- > 0;) store(start + e, left);
+        }
+    }
+
+    // Every live record, block by block; answers how many there are.
+    template <class Visit>
+    std::size_t walk(Visit visit) const {
+        const word *entries = w + (std::size_t(1) << g);
+        std::size_t count = std::size_t(1) << g, records = 0;
+        for (std::size_t i = 0; i < count;) {
+            unsigned l = unsigned(entries[i] >> 32);
+            const word *base = segment(std::uint32_t(entries[i]));
+            for (unsigned j = 0; j < slots; j++) {
+                word key = base[2 * j];
+                if (key == 0 || route(key, l) != i >> (g - l)) continue;
+                visit(key, base[2 * j + 1]);
+                records++;
+            }
+            i += std::size_t(1) << (g - l);
+        }
+        return records;
+    }
+};
+
+}  // namespace twin
