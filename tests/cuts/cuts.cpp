@@ -9,6 +9,7 @@
 #include "../twin/twin.hpp"
 
 #include <fcntl.h>
+#include <sched.h>
 #include <signal.h>
 #include <sys/mman.h>
 #include <sys/wait.h>
@@ -37,6 +38,21 @@ constexpr int wanted_kills = 1000, wanted_inside = 100, wanted_mends = 30, most_
 void fail(const char *what) {
     std::perror(what);
     std::exit(2);
+}
+
+// Keeps the process on one of the processors that it may use, so that the parent does not take the
+// child's while it waits.
+void stay_on(int which) {
+    cpu_set_t may, one;
+    if (sched_getaffinity(0, sizeof may, &may) != 0) fail("sched_getaffinity");
+    int skip = which % CPU_COUNT(&may);
+    for (int cpu = 0; cpu < CPU_SETSIZE; cpu++) {
+        if (!CPU_ISSET(cpu, &may) || skip-- > 0) continue;
+        CPU_ZERO(&one);
+        CPU_SET(cpu, &one);
+        sched_setaffinity(0, sizeof one, &one);
+        return;
+    }
 }
 
 // One call of the child, and whether it is announced or answered.
@@ -82,6 +98,7 @@ struct Scene {
     Table table;
     std::vector<word> splitting;
     double longest = 0;
+    cpu_set_t processors;
 
     void add(word key, word value) {
         if (page_index_put(image.data(), size, key, value, all).code != PAGE_INDEX_DONE) fail("prepare");
@@ -91,6 +108,7 @@ struct Scene {
     // A directory of depth 12 with one block at each smaller depth: the block of depth k + 1 has the
     // keys whose directory bits begin with k ones and a zero.
     Scene() {
+        if (sched_getaffinity(0, sizeof processors, &processors) != 0) fail("sched_getaffinity");
         page_index_format(image.data(), size, depth, segments, all);
         for (word h = 0; h < 4; h++)
             for (word b = 0; b < 16; b++) add(h * 65536 + 0xfff0 + b, 1000 + b);
@@ -154,6 +172,11 @@ void tell(int pipe, Message m, word answered) {
 
 [[noreturn]] void child(int fd, int pipe, const std::vector<Message> &calls) {
     word *words = map_file(fd);
+    // Every page is touched first, so that the calls take their usual time.
+    for (std::size_t i = 0; i < size; i += 512) {
+        volatile word *page = words + i;
+        *page = *page;
+    }
     for (const Message &m : calls) {
         tell(pipe, m, 0);
         make(words, m);
@@ -244,7 +267,11 @@ void cut(int fd, const Scene &scene, std::mt19937_64 &random, Counts &counts) {
     if (pipe(ends) != 0) fail("pipe");
     pid_t pid = fork();
     if (pid < 0) fail("fork");
-    if (pid == 0) child(fd, ends[1], calls);
+    if (pid == 0) {
+        sched_setaffinity(0, sizeof scene.processors, &scene.processors);
+        stay_on(1);
+        child(fd, ends[1], calls);
+    }
     close(ends[1]);
     // The kill comes some time after a random call was announced, mostly one that splits.
     std::size_t target = random() % 4 ? random() % scene.splitting.size() * group : random() % calls.size();
@@ -306,6 +333,7 @@ int main(int count, char **arguments) {
     if (fd < 0 || ftruncate(fd, size * sizeof(word)) != 0) fail(arguments[1]);
     Scene scenes[] = {many_splits(), one_split()};
     for (Scene &scene : scenes) scene.longest = measure(scene);
+    stay_on(0);
     Counts c;
     auto wanted = [&c] {
 #ifdef FAULT
