@@ -216,15 +216,21 @@ class Index {
 
     std::uint32_t scan() const {
         const word *entries = w + (std::size_t(1) << g);
-        std::size_t count = std::size_t(1) << g;
+        std::size_t count = std::size_t(1) << g, end = 0;
+        word leader = 0;
         bool consistent = true;
-        for (std::size_t i = 0; i < count;) {
-            word leader = entries[i];
-            if (leader >> 32 > g || std::uint32_t(leader) >= s) return broken;
-            std::size_t width = std::size_t(1) << (g - unsigned(leader >> 32));
+        for (std::size_t i = 0; i < count; i++) {
+            word e = entries[i];
+            if (i != end) {
+                consistent &= e == leader;
+                continue;
+            }
+            unsigned l = unsigned(e >> 32);
+            if (l > g || std::uint32_t(e) >= s) return broken;
+            std::size_t width = std::size_t(1) << (g - l);
             if (i & (width - 1)) return broken;
-            for (std::size_t j = i + 1; j < i + width; j++) consistent &= entries[j] == leader;
-            i += width;
+            leader = e;
+            end = i + width;
         }
         return consistent ? done : unmended;
     }
