@@ -52,6 +52,7 @@ fn run_script(script: &[u8]) {
     run_parts(script, &mut words, &mut list, &mut out);
 }
 
+// Reads the script and runs it.
 fn main() {
     let mut text = [0u8; TEXT_BYTES];
     let size = io::read_full(STDIN_FILENO, &mut text);

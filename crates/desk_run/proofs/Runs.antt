@@ -7,7 +7,7 @@ use mathlib.Core.Option.{none, some}
 use mathlib.Core.Logic.{inl, inr, ⊎-elim}
 use native.Mathlib.Omega.{arith}
 use borrow.Author.Tests.{lt-ltb, le-ltb, le-leb, lt-leb}
-use lib.ListN.{length, take, drop, length-append, length-drop}
+use lib.ListN.{length, take, drop, length-append, length-drop, drop-of-length-le}
 use lib.Seq.{length-take-le, take-at, drop-at, drop-drop, drop-length}
 use Rattle.stores.specs.Written.{Written}
 use Rattle.stores.proofs.Written.{written-none}
@@ -73,14 +73,13 @@ module _ (script : List ℕ) (from start end : ℕ) (n : NextLine script from st
   unfolding ranLines
   advanced-line at′ a′ out′ some-byte r =
       let ordered : start ≤ end = n .ordered in
-      let forward : from ≤ start = n .forward in
       let longer : start < end = omega (arith, some-byte) in
       record {
         part = (ranCall room a (callOf (take (end - start) (drop start script)))) .text;
         written = r .text;
         text = rw (n .lines, lt-ltb start end longer, r .words);
         words = rw (n .lines, lt-ltb start end longer, r .words);
-        forward = λ h. omega arith;
+        forward = λ h. omega (arith, n .forward (omega arith));
         within = n .within;
       }
 
@@ -165,7 +164,18 @@ pub ran-nothing : (room : ℕ) (a : List ℕ) → ran room a [] ≡ record { tex
 unfolding ran ranLines
 ran-nothing room a = rw lines-none
 
-module _ (script : List ℕ) (from room : ℕ) (a out : List ℕ) (h : from ≤ length script) where
+module _ (script : List ℕ) (from room : ℕ) (a out : List ℕ) where
+  -- Nothing is left of the script.
+  pub progressed-over : length script ≤ from → Progressed script from room a out (length script) 0 a out
+  progressed-over over =
+      record {
+        text = rw (drop-of-length-le script over, drop-length script);
+        words = rw (drop-of-length-le script over, drop-length script);
+        fits = omega arith;
+        behind = refl;
+        stop = record { stopped = inl refl; within = omega arith; forward = λ more room-left. more };
+      }
+
   pub progressed-lines : (next written : ℕ) (a′ out′ : List ℕ) → length script - from ≤ mostBytes
       → LinesRan script from room a out next written a′ out′ → Stopped script from out next written
       → Progressed script from room a out next written a′ out′
@@ -179,9 +189,7 @@ module _ (script : List ℕ) (from room : ℕ) (a out : List ℕ) (h : from ≤ 
         words = rw (le-leb _ _ first, le-leb _ _ rest) (r .words);
         fits = r .fits;
         behind = r .behind;
-        stopped = s .stopped;
-        within = s .within;
-        forward = s .forward;
+        stop = s;
       }
 
   module _ (many : mostBytes < length script - from) where
@@ -196,9 +204,7 @@ module _ (script : List ℕ) (from room : ℕ) (a out : List ℕ) (h : from ≤ 
           words = refl;
           fits = omega arith;
           behind = refl;
-          stopped = inr full;
-          within = h;
-          forward = λ more room-left. absurd (omega arith);
+          stop = record { stopped = inr full; within = omega arith; forward = λ more room-left. absurd (omega arith) };
         }
 
     pub progressed-too-long : (written : ℕ) (out′ : List ℕ) → lineRoom ≤ length out → Written tooLongLine 0 out written out′
@@ -211,7 +217,5 @@ module _ (script : List ℕ) (from room : ℕ) (a out : List ℕ) (h : from ≤ 
           words = rw (lt-leb _ _ too-many) (rw (drop-length script, ran-nothing room a) refl);
           fits = omega (arith, w .behind);
           behind = written-behind tooLongLine 0 out written out′ (omega arith) w;
-          stopped = inl refl;
-          within = omega arith;
-          forward = λ more room-left. more;
+          stop = record { stopped = inl refl; within = omega arith; forward = λ more room-left. more };
         }

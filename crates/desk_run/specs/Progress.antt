@@ -55,8 +55,5 @@ pub record Progressed (script : List ℕ) (from room : ℕ) (a out : List ℕ) (
   -- The bytes written have room, and those behind them are as they were.
   pub fits : written ≤ length out
   pub behind : drop written out′ ≡ drop written out
-  -- The script has ended, or the buffer has no room for another line.
-  pub stopped : (next ≡ length script) ⊎ (length out < written + lineRoom)
-  -- With room for a line the run goes on.
-  pub within : next ≤ length script
-  pub forward : from < length script → lineRoom ≤ length out → from < next
+  -- It stops where a run may.
+  pub stop : Stopped script from out next written

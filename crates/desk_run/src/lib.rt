@@ -7,7 +7,7 @@ use desk_text::output::write_answer;
 use desk_text::output::write_other;
 use desk_text::output::write_too_long;
 use desk_text::script::next_line;
-ghost use Prim.Native.Nat.{_+_, _≤_, _<_};
+ghost use Prim.Native.Nat.{_+_, _≤_};
 ghost use lib.ListN.{length};
 ghost use Rattle.desk_text.specs.Output.{lineRoom};
 ghost use Rattle.desk_run.specs.Progress.{LineRan, Advanced, LinesRan, Stopped, Progressed};
@@ -42,7 +42,7 @@ fn run_next(
     out: &mut [u8],
     at: usize,
 ) -> Progress
-    requires { ⌜ (from ≤ length (now script)) × (at + lineRoom ≤ length (now out)) ⌝ }
+    requires { ⌜ at + lineRoom ≤ length (now out) ⌝ }
     ensures { λ r. ⌜ Advanced (now (script .entry)) from (length (now (list .entry))) (now (words .entry)) at (now (out .entry)) (r .next) (r .written) (now (words .exit)) (now (out .exit)) ⌝ }
 {
     let line = next_line(script, from);
@@ -84,7 +84,8 @@ fn run_lines(
 }
 
 // Runs the script from position `from` on until it ends or the buffer has no room for another line.
-// Where too many bytes are left, it runs nothing, and writes the line that says so.
+// Where too many bytes are left, it runs nothing, and writes the line that says so. From the script's
+// end on there is nothing to run.
 pub fn run(
     script: &[u8],
     from: usize,
@@ -92,9 +93,14 @@ pub fn run(
     list: &mut [u64],
     out: &mut [u8],
 ) -> Progress
-    requires { ⌜ from ≤ length (now script) ⌝ }
     ensures { λ r. ⌜ Progressed (now (script .entry)) from (length (now (list .entry))) (now (words .entry)) (now (out .entry)) (r .next) (r .written) (now (words .exit)) (now (out .exit)) ⌝ }
 {
+    if script.len() <= from {
+        return Progress {
+            next: script.len(),
+            written: 0,
+        };
+    }
     if script.len() - from <= MOST_BYTES {
         return run_lines(script, from, words, list, out);
     }

@@ -6,8 +6,8 @@ use mathlib.Core.List.{List, [], _∷_}
 use native.Mathlib.Numerals.{add-one}
 use native.Mathlib.Omega.{arith}
 use borrow.Author.Tests.{ne-eqb, lt-ltb, le-ltb}
-use lib.ListN.{length, take, drop, getD}
-use lib.Seq.{drop-cons, drop-drop, drop-length}
+use lib.ListN.{length, take, drop, getD, drop-of-length-le}
+use lib.Seq.{drop-cons, drop-drop}
 use Rattle.bytes.specs.Bytes.{indexOf, indexAfter, slice}
 use Rattle.desk_text.specs.Parts.{lineFeed, parts, nonempty, linesOf}
 use Rattle.desk_text.specs.Script.{NextLine}
@@ -56,7 +56,7 @@ line-found script from start end forward h within e n skipped =
     let rest : drop (indexOf lineFeed (drop start script)) (drop start script) ≡ drop end script =
     drop-drop (indexOf lineFeed (drop start script)) start script ∙ ap (λ (k : ℕ). drop k script) (sym i) in
     record {
-      forward = forward;
+      forward = λ near. forward;
       ordered = omega arith;
       within = within;
       none-left = λ same. absurd (omega arith);
@@ -66,13 +66,13 @@ line-found script from start end forward h within e n skipped =
     }
 
 -- No line is left.
-pub line-none : (script : List ℕ) (from : ℕ) → from ≤ length script → linesOf (drop from script) ≡ linesOf (drop (length script) script)
+pub line-none : (script : List ℕ) (from start : ℕ) → length script ≤ start → linesOf (drop from script) ≡ linesOf (drop start script)
     → NextLine script from (length script) (length script)
-line-none script from h skipped =
+line-none script from start h skipped =
     record {
-      forward = h;
+      forward = λ near. near;
       ordered = omega arith;
       within = omega arith;
       none-left = λ same. refl;
-      lines = skipped ∙ rw (le-ltb (length script) (length script) (omega arith), drop-length script) lines-none;
+      lines = skipped ∙ rw (le-ltb (length script) (length script) (omega arith), drop-of-length-le script h) lines-none;
     }

@@ -1,12 +1,16 @@
--- The fields of an answer's line: how long they are, and what they are for each reply.
+-- The fields of an answer's line: how long they are, and what they are for each reply. A line after the test of its room.
 -- Assumes nothing.
-use Prim.Native.Nat.{ℕ, _≤_}
-use mathlib.Core.Path.{_≡_, refl}
-use mathlib.Core.List.{[], _∷_, _++_, append-nil}
+use Prim.Native.Nat.{ℕ, _+_, _≤_, _<_}
+use mathlib.Core.Path.{_≡_, refl, sym, _∙_}
+use mathlib.Core.Bool.{Bool, true, false, not}
+use mathlib.Core.List.{List, [], _∷_, _++_, append-nil}
 use native.Mathlib.Omega.{arith}
+use borrow.Author.Tests.{leb-true, leb-false, not-true, not-false}
+use lib.Dec.{leb}
 use lib.ListN.{length}
 use denote.Enum.Declared
 use types.Run.{OneOf, miss}
+use Rattle.stores.specs.Written.{Written}
 use Rattle.rules.proofs.Reply
 use Rattle.rules.specs.declared.Refusal.{Refusal}
 use Rattle.rules.specs.declared.Refusal.the-variants.{NoStore, NoKey, Broken, Unmended, TooDeep, NoSegment, CutOff, BadShape, TooShort, ShortList}
@@ -15,7 +19,7 @@ use Rattle.rules.specs.declared.Reply.the-variants.{Done, Value, Absent, Refuse
 use Rattle.rules.specs.Replies.{numberOf, saidBy}
 use Rattle.desk_text.specs.Parts.{tab, lineFeed}
 use Rattle.desk_text.specs.Number.{decimal, spelled}
-use Rattle.desk_text.specs.Output.{replyText, valuesText, endText}
+use Rattle.desk_text.specs.Output.{replyText, valuesText, endText, lineRoom, LineWritten}
 
 -- The number of a refusal has at most two digits.
 pub length-refusal : (r : Refusal) → length (decimal (numberOf r)) ≤ 2
@@ -49,3 +53,19 @@ end-plain Done t = refl
 end-plain (Value v) t = absurd (miss (0 ∷ 2 ∷ 3 ∷ []) 1 Prim.tt t)
 end-plain Absent t = refl
 end-plain (Refused r) t = refl
+
+-- A line after the test of its room: written where there is room, and left out where there is none.
+module _ (at : ℕ) (before : List ℕ) (r : Bool) (tested : r ≡ leb (at + lineRoom) (length before)) where
+  pub line-fits : not r ≡ false → at + lineRoom ≤ length before
+  line-fits left = leb-true _ _ (sym tested ∙ not-false r left)
+
+  pub line-written : {text : List ℕ} {next : ℕ} {after : List ℕ} → not r ≡ false → Written text at before next after
+      → LineWritten text at before next after
+  line-written left w =
+      let fits : at + lineRoom ≤ length before = line-fits left in
+      record { room = λ enough. w; no-room = λ few. absurd (omega arith) }
+
+  pub line-left-out : {text : List ℕ} → not r ≡ true → LineWritten text at before at before
+  line-left-out taken =
+      let full : length before < at + lineRoom = leb-false _ _ (sym tested ∙ not-true r taken) in
+      record { room = λ enough. absurd (omega arith); no-room = λ few. (refl, refl) }

@@ -12,22 +12,27 @@ use Rattle.desk_text.specs.declared.line.Line.the-variants.{Called, Othe
 use Rattle.desk_text.specs.Parts.{fieldsOf}
 use Rattle.desk_text.specs.Number.{number}
 
--- The letters F, P, G, R, M and L.
+-- The letter of a format, F.
 abbrev pub letterFormat : ℕ
 letterFormat = 70
 
+-- The letter of a put, P.
 abbrev pub letterPut : ℕ
 letterPut = 80
 
+-- The letter of a get, G.
 abbrev pub letterGet : ℕ
 letterGet = 71
 
+-- The letter of a remove, R.
 abbrev pub letterRemove : ℕ
 letterRemove = 82
 
+-- The letter of a mend, M.
 abbrev pub letterMend : ℕ
 letterMend = 77
 
+-- The letter of a list, L.
 abbrev pub letterList : ℕ
 letterList = 76
 

@@ -14,10 +14,11 @@ use Rattle.desk_text.specs.declared.number.Number.the-variants.{Is, Not}
 abbrev pub digitZero : ℕ
 digitZero = 48
 
--- A byte is a digit, and every byte is one.
+-- A byte is a digit.
 unfoldable pub isDigit : ℕ → Bool
 isDigit c = leb digitZero c && leb c 57
 
+-- Every byte is a digit.
 unfoldable pub allDigits : List ℕ → Bool
 allDigits [] = true
 allDigits (c ∷ cs) = isDigit c && allDigits cs

@@ -5,10 +5,11 @@ use mathlib.Core.List.{List, [], _∷_}
 use lib.Dec.{eqb}
 use Rattle.stores.specs.Lists.{pick}
 
--- The bytes that part a text.
+-- The byte that parts a line's fields.
 abbrev pub tab : ℕ
 tab = 9
 
+-- The byte that parts a script's lines.
 abbrev pub lineFeed : ℕ
 lineFeed = 10
 

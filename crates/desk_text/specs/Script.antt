@@ -8,9 +8,10 @@ use lib.ListN.{length, take, drop}
 use Rattle.stores.specs.Lists.{pick}
 use Rattle.desk_text.specs.Parts.{linesOf}
 
--- From position `from` on, the script's next line stands from `start` to `end`; where none is left, both are its length.
+-- From position `from` on, the script's next line stands from `start` to `end`; where none is left, both are its length, also
+-- for a position behind its end.
 pub record NextLine (script : List ℕ) (from start end : ℕ) : Type 0 where
-  pub forward : from ≤ start
+  pub forward : from ≤ length script → from ≤ start
   pub ordered : start ≤ end
   pub within : end ≤ length script
   pub none-left : start ≡ end → end ≡ length script

@@ -57,7 +57,7 @@ pub fn read_number(field: &[u8]) -> Number
 }
 
 // Writes n in decimal digits from position `at` on, and answers the position behind them.
-pub fn write_decimal(n: u64, out: &mut [u8], at: usize) -> usize
+pub(crate) fn write_decimal(n: u64, out: &mut [u8], at: usize) -> usize
     requires { ⌜ at + length (decimal n) ≤ length (now out) ⌝ }
     ensures { λ r. ⌜ Written (decimal n) at (now (out .entry)) r (now (out .exit)) ⌝ }
 {

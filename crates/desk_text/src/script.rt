@@ -1,7 +1,5 @@
 // A script: its lines, one after the other.
 use bytes::scan::find;
-ghost use Prim.Native.Nat.{_≤_};
-ghost use lib.ListN.{length};
 ghost use Rattle.desk_text.specs.Script.{NextLine};
 
 const LINE_FEED: u8 = b'\n';
@@ -14,7 +12,6 @@ pub struct Span {
 
 // Finds the next line of the script from position `from` on, past empty lines.
 pub fn next_line(script: &[u8], from: usize) -> Span
-    requires { ⌜ from ≤ length (now script) ⌝ }
     ensures { λ r. ⌜ NextLine (now (script .entry)) from (r .start) (r .end) ⌝ }
 {
     for start in from..script.len() {

@@ -29,7 +29,7 @@ same-length-3 c = search needs
 returns : tie.Need-returns
 returns c =
     let call = c .before .before .before .before .before .before .before .before .before .run in
-    (call .ensures .forward (search needs) (search needs), call .ensures .within)
+    (call .ensures .stop .forward (search needs) (search needs), call .ensures .stop .within)
 
 same-length-4 : tie.Need-same-length-4
 same-length-4 c = search needs

@@ -44,7 +44,7 @@ returns c =
 run-next-requires : tie.Need-run-next-requires Inv-loop μ-loop
 run-next-requires c κs =
     let here = c .before .before .before .before .before .loop in
-    (search needs, omega (arith, here .inv .3 .fits))
+    omega (arith, here .inv .3 .fits)
 
 loop-less : tie.Need-loop-less Inv-loop μ-loop
 loop-less c =

@@ -23,7 +23,7 @@ same-length-3 c = search needs
 returns : tie.Need-returns
 returns c =
     let call = c .before .before .before .before .before .before .before .run in
-    record { forward = call .ensures .forward (search needs) (search needs); within = call .ensures .within; fits = search needs }
+    record { forward = call .ensures .stop .forward (search needs) (search needs); within = call .ensures .stop .within; fits = search needs }
 
 slice-reshare-prefix-is-equal : tie.Need-slice-reshare-prefix-is-equal
 slice-reshare-prefix-is-equal c = search needs
@@ -61,7 +61,7 @@ same-length-6 c = search needs
 returns-2 : tie.Need-returns-2
 returns-2 c =
     let call = c .before .before .before .before .before .before .before .before .before .before .run in
-    record { forward = call .ensures .forward (search needs) (search needs); within = call .ensures .within; fits = search needs }
+    record { forward = call .ensures .stop .forward (search needs) (search needs); within = call .ensures .stop .within; fits = search needs }
 
 pub run-part-spec : {M : Type 1} → statement M
 run-part-spec =

@@ -12,14 +12,14 @@ use Rattle.desk_text.proofs.script.next_line.Tie as tie
 
 abbrev Inv-loop : tie.InvT-loop
 Inv-loop script from start₀ start-end start =
-    (from ≤ start) × (start ≤ length script) × (start-end ≡ length script) × (linesOf (drop from script) ≡ linesOf (drop start script))
+    (from ≤ start) × (start-end ≡ length script) × (linesOf (drop from script) ≡ linesOf (drop start script))
 
 abbrev μ-loop : tie.MeasureT-loop
 μ-loop script from start₀ start-end start = length script - start
 
 loop-holds : tie.Need-loop-holds Inv-loop μ-loop
 loop-holds c =
-    (search needs, search needs, refl, refl)
+    (search needs, refl, refl)
 
 shared-slice-read-if1 : tie.Need-shared-slice-read-if1 Inv-loop μ-loop
 shared-slice-read-if1 c = search needs
@@ -31,7 +31,7 @@ find-requires c κs =
 returns : tie.Need-returns Inv-loop μ-loop
 returns c =
     let here = c .before .before .before .before .loop in
-    line-found _ _ _ _ (search needs) (search needs) (c .find .ensures .1) (c .find .ensures .0) (c .before .if1 .taken) (here .inv .3)
+    line-found _ _ _ _ (search needs) (search needs) (c .find .ensures .1) (c .find .ensures .0) (c .before .if1 .taken) (here .inv .2)
 
 add-start : tie.Need-add-start Inv-loop μ-loop
 add-start c = search needs
@@ -42,13 +42,12 @@ loop-less c = search needs
 loop-again : tie.Need-loop-again Inv-loop μ-loop
 loop-again c =
     let here = c .before .before .before .loop in
-    (search needs, search needs, search needs, here .inv .3 ∙ lines-skip (c .before .before .before .before .before .args .script .now) (here .start) (search needs) (c .if1 .left))
+    (search needs, search needs, here .inv .2 ∙ lines-skip (c .before .before .before .before .before .args .script .now) (here .start) (search needs) (c .if1 .left))
 
 returns-2 : tie.Need-returns-2 Inv-loop μ-loop
 returns-2 c =
     let here = c .before .loop in
-    let all : here .start ≡ length (c .before .before .before .args .script .now) = omega arith in
-    line-none _ _ (search needs) (rw all at (here .inv .3))
+    line-none _ _ (here .start) (search needs) (here .inv .2)
 
 pub next-line-spec : {M : Type 1} → statement M
 next-line-spec =
