@@ -7,10 +7,10 @@ use mathlib.Core.Option.{none, some}
 use mathlib.Core.Logic.{inl, inr, ⊎-elim}
 use native.Mathlib.Omega.{arith}
 use borrow.Author.Tests.{lt-ltb, le-ltb, le-leb, lt-leb}
-use lib.ListN.{length, take, drop, length-append, length-drop, drop-of-length-le}
-use lib.Seq.{length-take-le, take-at, drop-at, drop-drop, drop-length}
+use lib.ListN.{length, take, drop, length-drop, drop-of-length-le}
+use lib.Seq.{drop-drop, drop-length}
 use Rattle.stores.specs.Written.{Written}
-use Rattle.stores.proofs.Written.{written-none}
+use Rattle.stores.proofs.Written.{written-none, written-front, written-behind, written-within}
 use Rattle.rules.specs.declared.Answer.{Answer}
 use Rattle.rules.specs.declared.Call.{Call}
 use Rattle.rules.specs.Replies.{saidBy}
@@ -22,30 +22,6 @@ use Rattle.desk_text.specs.Output.{answerLine, otherLine, tooLongLine, lineRoom
 use Rattle.desk_text.proofs.Lines.{lines-none}
 use Rattle.desk_run.specs.Run.{mostBytes, ranCall, ranLines, ran}
 use Rattle.desk_run.specs.Progress.{LineRan, Advanced, LinesRan, Stopped, Progressed}
-
--- ---- What has been written
-
-module _ (ws : List ℕ) (at : ℕ) (l : List ℕ) (next : ℕ) (l′ : List ℕ) (h : at ≤ length l) (w : Written ws at l next l′) where
-  front-length : length (take at l ++ ws) ≡ next
-  front-length = length-append (take at l) ws ∙ rw (length-take-le at l h) (sym (w .behind))
-
-  -- The words stand behind those before them.
-  pub written-front : take next l′ ≡ take at l ++ ws
-  written-front = rw (w .list) (take-at (take at l ++ ws) (drop (at + length ws) l) next front-length)
-
-  pub written-behind : drop next l′ ≡ drop next l
-  written-behind =
-      ap (drop next) (w .list)
-      ∙ drop-at (take at l ++ ws) (drop (at + length ws) l) next front-length
-      ∙ ap (λ (k : ℕ). drop k l) (sym (w .behind))
-
-  -- They have room where the list is as long as before.
-  pub written-within : length l′ ≡ length l → next ≤ length l
-  written-within kept =
-      let whole : length l′ ≡ length (take at l ++ ws) + length (drop (at + length ws) l) =
-      ap length (w .list) ∙ length-append (take at l ++ ws) (drop (at + length ws) l) in
-      let front : length (take at l ++ ws) ≡ next = front-length in
-      omega arith
 
 -- ---- One line
 
