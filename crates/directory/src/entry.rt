@@ -14,6 +14,12 @@ const DEPTH_UNIT: u64 = 4294967296;
 // The buckets of a segment: a key's directory bits stand above its bucket.
 const BUCKETS: u64 = 16;
 
+// The most directory bits of an index: document 01's largest D.
+const MOST_BITS: u32 = 12;
+
+// The numbers of four bits with their bits in reverse order.
+const REVERSED: [usize; 16] = [0, 8, 4, 12, 2, 10, 6, 14, 1, 9, 5, 13, 3, 11, 7, 15];
+
 // An entry in range, or one that a call refuses as broken.
 pub enum Entry {
     At { segment: usize, depth: u32 },
@@ -86,18 +92,21 @@ pub fn block_start(i: usize, depth: u32, local_depth: u32) -> usize
     i - (i & (width - 1))
 }
 
+// The key's first four directory bits, the first one heaviest.
+fn first_bits(key: u64) -> usize
+    ensures { λ r. ⌜ r ≡ index key 4 ⌝ }
+{
+    REVERSED[(key / BUCKETS % 16) as usize]
+}
+
 // The key's index in the directory of this depth: its first directory bits, the first one heaviest.
+// They are the first of the most bits that an index has, which are taken four at a time.
 pub fn directory_index(key: u64, depth: u32) -> usize
     requires { ⌜ depth ≤ 12 ⌝ }
     ensures { λ r. ⌜ r ≡ index key depth ⌝ }
 {
-    let mut bits = key / BUCKETS;
-    let mut found: usize = 0;
-    for _ in 0..depth {
-        found = 2 * found + (bits % 2) as usize;
-        bits = bits / 2;
-    }
-    found
+    let all = 256 * first_bits(key) + 16 * first_bits(key / 16) + first_bits(key / 256);
+    all >> (MOST_BITS - depth)
 }
 
 // A key of the block of local depth `local_depth` that holds index `i`: the block's bits in reverse

@@ -3,18 +3,19 @@
 -- Assumes nothing.
 use mathlib.Core.Path.{_≡_, refl, sym, ap, _∙_}
 use mathlib.Core.Bool.{Bool, true, false, not, _&&_, and-false}
-use mathlib.Core.List.{[], _∷_, List·Memᴰ, List·Memᴰ·head, List·Memᴰ·eq-of-singleton}
+use mathlib.Core.List.{List, [], _∷_, List·Memᴰ, List·Memᴰ·head, List·Memᴰ·eq-of-singleton}
 use mathlib.Core.Logic.{⊎-elim}
 use Prim.Native.Nat.{ℕ, zero, suc, _+_, _*_, _-_, _/_, _%_, _^_, _≤_, _<_}
-use native.Mathlib.Nat.{eq-or-lt-of-le, le-of-suc-le-suc, pow-succ', sub-self, sub-zero, mul-comm, mul-suc, add-mul, mod-lt, div-one, div-add-mod, div-div-eq-div-mul, div-lt-iff-lt-mul, div-eq-of-lt-le, mul-div-le, mul-mod-right, mul-le-mul-left, add-suc, pow-suc, mul-left-comm, mul-div-right}
+use native.Mathlib.Nat.{add-zero, eq-or-lt-of-le, le-of-suc-le-suc, pow-succ', sub-self, sub-zero, mul-comm, mul-suc, add-mul, mod-lt, div-one, div-add-mod, div-div-eq-div-mul, div-lt-iff-lt-mul, div-eq-of-lt-le, mul-div-le, mul-mod-right, mul-le-mul-left, add-suc, pow-suc, mul-left-comm, mul-assoc, mul-div-right}
 use native.Mathlib.Numerals.{one-add}
 use native.Mathlib.Omega.{arith}
 use borrow.Author.Tests.{eqb-true, eqb-false, not-true, eq-eqb, ne-eqb}
 use lib.Dec.{eqb}
+use lib.ListN.{getD}
 use lib.Pow.{pow-pos, pow-add, shr-shr, mod-pow-add, mod-mod-pow, field, pow-mono}
-use Rattle.stores.specs.Lists.{each}
+use Rattle.stores.specs.Lists.{each, allBelow}
 use Rattle.stores.proofs.Tests.{and-left, and-right, and-true, same-test}
-use Rattle.stores.proofs.Lists.{mem-each, each-mem}
+use Rattle.stores.proofs.Lists.{mem-each, each-mem, all-at}
 use Rattle.rules.specs.Keys.{bucket, bit, index, width, blockBits, blockStart, live, windowBucket, slotsOf, window}
 
 -- ---- A key's bits and its index
@@ -301,22 +302,6 @@ pub blockBits-shift : (g L i : ℕ) → blockBits g L i ≡ i / 2 ^ (g - L)
 unfolding blockBits width
 blockBits-shift g L i = refl
 
--- What is left of a key above its first t directory bits. Its last bit is directory bit number t.
-pub above : (key t : ℕ) → ℕ
-above key t = key / 2 ^ (4 + t)
-
-pub above-zero : (key : ℕ) → key / 16 ≡ above key 0
-unfolding above
-above-zero key = refl
-
-pub above-suc : (key t : ℕ) → above key t / 2 ≡ above key (suc t)
-unfolding above
-above-suc key t = div-div-eq-div-mul key (2 ^ (4 + t)) 2 ∙ rw (add-suc, pow-suc)
-
-pub index-above : (key t : ℕ) → index key (suc t) ≡ 2 * index key t + above key t % 2
-unfolding above bit
-index-above key t = index-suc key t
-
 -- Above the bucket, a number's own bits are directory bits, the lowest one first. A further bit x in front of them is the
 -- heaviest of the index.
 above-bucket : (n i : ℕ) → 16 * n / 2 ^ (4 + i) ≡ n / 2 ^ i
@@ -336,3 +321,31 @@ index-in-front n x (suc t) h =
     let last : bit (16 * (2 * n + x)) (suc t) ≡ bit (16 * n) t = bit-behind n x t h in
     let twice : x * 2 ^ suc t ≡ 2 * (x * 2 ^ t) = rw pow-succ' (mul-left-comm x 2 (2 ^ t)) in
     omega (arith, index-suc (16 * (2 * n + x)) (suc t), index-suc (16 * n) t)
+
+-- The directory bits behind the first m of a key are those of the key without them.
+bit-beyond : (key m n : ℕ) → bit key (m + n) ≡ bit (key / 2 ^ m) n
+unfolding bit
+bit-beyond key m n =
+    let sum : 4 + (m + n) ≡ m + (4 + n) = omega arith in
+    rw (sum, pow-add 2 m (4 + n), ← div-div-eq-div-mul key (2 ^ m) (2 ^ (4 + n)))
+
+pub index-joined : (key m n : ℕ) → index key (m + n) ≡ 2 ^ n * index key m + index (key / 2 ^ m) n
+index-joined key m zero = rw (index-zero (key / 2 ^ m), add-zero m) (omega arith)
+index-joined key m (suc n) =
+    let before : index key (m + n) ≡ 2 ^ n * index key m + index (key / 2 ^ m) n = index-joined key m n in
+    let twice : 2 ^ suc n * index key m ≡ 2 * (2 ^ n * index key m) = rw pow-succ' (mul-assoc 2 (2 ^ n) (index key m)) in
+    rw (add-suc, index-suc key (m + n), bit-beyond key m n, index-suc (key / 2 ^ m) n, twice) (omega (arith, before))
+
+-- The index at depth 4 by the four bits above the bucket: the numbers below 16 with their bits in reverse order.
+abbrev pub fourBits : List ℕ
+fourBits =
+    0 ∷ 8 ∷ 4 ∷ 12 ∷ 2 ∷ 10 ∷ 6 ∷ 14 ∷ 1 ∷ 9 ∷ 5 ∷ 13 ∷ 3 ∷ 11 ∷ 7 ∷ 15 ∷ []
+
+four-reversed : allBelow (λ b. eqb (getD fourBits b 0) (index (16 * b) 4)) 16 ≡ true
+unfolding allBelow index bit
+four-reversed = refl
+
+pub index-four : (key : ℕ) → getD fourBits (key / 16 % 16) 0 ≡ index key 4
+index-four key =
+    eqb-true _ _ (all-at (λ b. eqb (getD fourBits b 0) (index (16 * b) 4)) 16 four-reversed (key / 16 % 16) (omega arith))
+    ∙ bits-index (16 * (key / 16 % 16)) key 4 (omega arith)

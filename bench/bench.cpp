@@ -1,0 +1,254 @@
+// Times side by side, by Google Benchmark: every peer does the same calls on the same keys.
+#include "peers.hpp"
+
+#include <benchmark/benchmark.h>
+
+#include <random>
+
+namespace {
+
+// The pages of a cabinet that is half full, and those at its first refusal with running numbers.
+constexpr word half_full = 80000, first_refusal = 162815;
+
+word place(word page) { return 3 * page; }
+
+// Running image numbers, or the same number of random keys.
+Words keys(bool running, word count) {
+    Words found(count);
+    std::mt19937_64 random(7);
+    for (word i = 0; i < count; i++) found[i] = running ? i + 1 : random() >> 1 | 1;
+    return found;
+}
+
+// Some of the keys, in random order.
+Words sample(const Words &from) {
+    std::mt19937_64 random(11);
+    Words found(1 << 14);
+    for (word &key : found) key = from[random() % from.size()];
+    return found;
+}
+
+template <class Peer>
+void fill(Peer &peer, const Words &pages) {
+    for (word key : pages) peer.put(key, place(key));
+}
+
+// One peer, filled with the pages, kept from one benchmark to the next.
+template <class Peer, bool running>
+Peer &filled() {
+    static std::unique_ptr<Peer> peer;
+    if (!peer) {
+        peer = std::make_unique<Peer>();
+        fill(*peer, keys(running, half_full));
+    }
+    return *peer;
+}
+
+template <class Peer, bool running>
+void get_hit(benchmark::State &state) {
+    Peer &peer = filled<Peer, running>();
+    Words some = sample(keys(running, half_full));
+    std::size_t i = 0;
+    for (auto _ : state) benchmark::DoNotOptimize(peer.get(some[i++ % some.size()]));
+}
+
+template <class Peer, bool running>
+void get_miss(benchmark::State &state) {
+    Peer &peer = filled<Peer, running>();
+    Words some = sample(keys(running, half_full));
+    std::size_t i = 0;
+    for (auto _ : state) benchmark::DoNotOptimize(peer.get(some[i++ % some.size()] + (word(1) << 62)));
+}
+
+template <class Peer, bool running>
+void overwrite(benchmark::State &state) {
+    Peer &peer = filled<Peer, running>();
+    Words some = sample(keys(running, half_full));
+    std::size_t i = 0;
+    for (auto _ : state) {
+        word key = some[i++ % some.size()];
+        benchmark::DoNotOptimize(peer.put(key, place(key)));
+    }
+}
+
+// A remove, and the put that takes its slot again.
+template <class Peer, bool running>
+void remove_put(benchmark::State &state) {
+    Peer &peer = filled<Peer, running>();
+    Words some = sample(keys(running, half_full));
+    std::size_t i = 0;
+    for (auto _ : state) {
+        word key = some[i++ % some.size()];
+        peer.remove(key);
+        benchmark::DoNotOptimize(peer.put(key, place(key)));
+    }
+}
+
+// A fill from nothing to the first refusal of ours; the peers take as many pages.
+template <class Peer, bool running>
+void fill_all(benchmark::State &state) {
+    Words pages = keys(running, first_refusal);
+    for (auto _ : state) {
+        Peer peer;
+        word done = 0;
+        for (word key : pages) {
+            if (peer.put(key, place(key)) != 0) break;
+            done++;
+        }
+        state.counters["pages"] = double(done);
+    }
+}
+
+template <class Peer>
+void list(benchmark::State &state) {
+    Peer &peer = filled<Peer, true>();
+    Words out(2 * half_full);
+    for (auto _ : state) benchmark::DoNotOptimize(peer.list(out));
+}
+
+template <class Peer>
+void mend(benchmark::State &state) {
+    Peer &peer = filled<Peer, true>();
+    for (auto _ : state) peer.mend();
+}
+
+// An index whose directory has the depth asked for, with running numbers.
+template <class Peer>
+Peer at_depth(word depth, word &pages) {
+    Peer peer;
+    for (pages = 0; (peer.words[0] & 255) < depth; pages++) peer.put(pages + 1, place(pages + 1));
+    return peer;
+}
+
+template <class Peer>
+void get_at_depth(benchmark::State &state) {
+    word pages = 0;
+    Peer peer = at_depth<Peer>(word(state.range(0)), pages);
+    pages = std::max<word>(pages, 1);
+    peer.put(1, place(1));
+    std::size_t i = 0;
+    for (auto _ : state) benchmark::DoNotOptimize(peer.get(i++ % pages + 1));
+}
+
+template <class Peer>
+void put_at_depth(benchmark::State &state) {
+    word pages = 0;
+    Peer peer = at_depth<Peer>(word(state.range(0)), pages);
+    pages = std::max<word>(pages, 1);
+    std::size_t i = 0;
+    for (auto _ : state) {
+        word key = i++ % pages + 1;
+        benchmark::DoNotOptimize(peer.put(key, place(key)));
+    }
+}
+
+// A fill with the first pages alone, for how its time grows.
+template <class Peer>
+void fill_pages(benchmark::State &state) {
+    Words pages = keys(true, word(state.range(0)));
+    for (auto _ : state) {
+        Peer peer;
+        fill(peer, pages);
+    }
+}
+
+// A put that splits, on an index of the cabinet's size in which every window is nearly full.
+template <class Peer>
+void put_with_split(benchmark::State &state) {
+    Peer peer;
+    Words before;
+    word page = 1;
+    for (; page < half_full; page++) peer.put(page, place(page));
+    for (;; page++) {
+        before = peer.words;
+        peer.put(page, place(page));
+        if (peer.stores > 2) break;
+    }
+    for (auto _ : state) {
+        state.PauseTiming();
+        peer.words = before;
+        state.ResumeTiming();
+        benchmark::DoNotOptimize(peer.put(page, place(page)));
+    }
+    state.counters["stores"] = peer.stores;
+}
+
+// The put with the most stores: D = 12, S = 13.
+template <class Peer>
+void worst_put(benchmark::State &state) {
+    Peer peer(12, 13);
+    for (word h = 0; h < 4; h++)
+        for (word b = 0; b < 16; b++) peer.put(h * 65536 + 0xfff0 + b, 1);
+    Words before = peer.words;
+    for (auto _ : state) {
+        state.PauseTiming();
+        peer.words = before;
+        state.ResumeTiming();
+        benchmark::DoNotOptimize(peer.put(5 * 65536 + 0x7ff0, 1));
+    }
+    state.counters["stores"] = peer.stores;
+}
+
+// The put at which the old table is copied, with as many pages as half a cabinet has.
+void linear_copy(benchmark::State &state) {
+    Linear full;
+    word page = 1;
+    for (; page < half_full || 2 * (page + 1) <= full.capacity(); page++) full.put(page, page);
+    for (auto _ : state) {
+        state.PauseTiming();
+        Linear copy = full;
+        state.ResumeTiming();
+        benchmark::DoNotOptimize(copy.put(page + 1, 1));
+    }
+}
+
+template <class Peer>
+benchmark::internal::Benchmark *add(const char *what, void (*run)(benchmark::State &)) {
+    return benchmark::RegisterBenchmark((std::string(what) + "/" + Peer::name).c_str(), run);
+}
+
+template <class Peer>
+void add_common() {
+    add<Peer>("get hit, running", get_hit<Peer, true>);
+    add<Peer>("get hit, random", get_hit<Peer, false>);
+    add<Peer>("get miss, running", get_miss<Peer, true>);
+    add<Peer>("overwrite, running", overwrite<Peer, true>);
+    add<Peer>("overwrite, random", overwrite<Peer, false>);
+    add<Peer>("remove and put, running", remove_put<Peer, true>);
+    add<Peer>("remove and put, random", remove_put<Peer, false>);
+    add<Peer>("fill, running", fill_all<Peer, true>)->Iterations(1)->Unit(benchmark::kMillisecond);
+    add<Peer>("fill, random", fill_all<Peer, false>)->Iterations(1)->Unit(benchmark::kMillisecond);
+}
+
+template <class Peer>
+void add_scheme() {
+    add<Peer>("list", list<Peer>);
+    add<Peer>("mend", mend<Peer>);
+    add<Peer>("put with a split", put_with_split<Peer>);
+    add<Peer>("worst put", worst_put<Peer>);
+    for (int depth = 0; depth <= 12; depth++) {
+        add<Peer>("get at depth", get_at_depth<Peer>)->Arg(depth);
+        add<Peer>("put at depth", put_at_depth<Peer>)->Arg(depth);
+    }
+    for (int pages = 20000; pages <= 160000; pages += 20000)
+        add<Peer>("fill pages", fill_pages<Peer>)->Arg(pages)->Iterations(1)->Unit(benchmark::kMillisecond);
+}
+
+}  // namespace
+
+int main(int count, char **arguments) {
+    benchmark::Initialize(&count, arguments);
+    add_common<Ours>();
+    add_common<Twin>();
+    add_common<Abseil>();
+    add_common<Standard>();
+    add_common<Linear>();
+    add_common<Lmdb>();
+    add_common<Tkrzw>();
+    add_common<Sqlite>();
+    add_scheme<Ours>();
+    add_scheme<Twin>();
+    benchmark::RegisterBenchmark("worst put/linear", linear_copy);
+    benchmark::RunSpecifiedBenchmarks();
+    return 0;
+}
