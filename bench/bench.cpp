@@ -7,8 +7,9 @@
 
 namespace {
 
-// The pages of a cabinet that is half full, and those at its first refusal with running numbers.
-constexpr word half_full = 80000, first_refusal = 162815;
+// The pages of a cabinet in use, and those that it takes before its first refusal (bench/counts).
+constexpr word in_use = 70000;
+constexpr word until_refusal(bool running) { return running ? 162815 : 78206; }
 
 word place(word page) { return 3 * page; }
 
@@ -39,7 +40,7 @@ Peer &filled() {
     static std::unique_ptr<Peer> peer;
     if (!peer) {
         peer = std::make_unique<Peer>();
-        fill(*peer, keys(running, half_full));
+        fill(*peer, keys(running, in_use));
     }
     return *peer;
 }
@@ -47,7 +48,7 @@ Peer &filled() {
 template <class Peer, bool running>
 void get_hit(benchmark::State &state) {
     Peer &peer = filled<Peer, running>();
-    Words some = sample(keys(running, half_full));
+    Words some = sample(keys(running, in_use));
     std::size_t i = 0;
     for (auto _ : state) benchmark::DoNotOptimize(peer.get(some[i++ % some.size()]));
 }
@@ -55,7 +56,7 @@ void get_hit(benchmark::State &state) {
 template <class Peer, bool running>
 void get_miss(benchmark::State &state) {
     Peer &peer = filled<Peer, running>();
-    Words some = sample(keys(running, half_full));
+    Words some = sample(keys(running, in_use));
     std::size_t i = 0;
     for (auto _ : state) benchmark::DoNotOptimize(peer.get(some[i++ % some.size()] + (word(1) << 62)));
 }
@@ -63,7 +64,7 @@ void get_miss(benchmark::State &state) {
 template <class Peer, bool running>
 void overwrite(benchmark::State &state) {
     Peer &peer = filled<Peer, running>();
-    Words some = sample(keys(running, half_full));
+    Words some = sample(keys(running, in_use));
     std::size_t i = 0;
     for (auto _ : state) {
         word key = some[i++ % some.size()];
@@ -75,7 +76,7 @@ void overwrite(benchmark::State &state) {
 template <class Peer, bool running>
 void remove_put(benchmark::State &state) {
     Peer &peer = filled<Peer, running>();
-    Words some = sample(keys(running, half_full));
+    Words some = sample(keys(running, in_use));
     std::size_t i = 0;
     for (auto _ : state) {
         word key = some[i++ % some.size()];
@@ -84,10 +85,10 @@ void remove_put(benchmark::State &state) {
     }
 }
 
-// A fill from nothing to the first refusal of ours; the peers take as many pages.
+// A fill from nothing to ours' first refusal; the peers take as many pages.
 template <class Peer, bool running>
 void fill_all(benchmark::State &state) {
-    Words pages = keys(running, first_refusal);
+    Words pages = keys(running, until_refusal(running));
     for (auto _ : state) {
         Peer peer;
         word done = 0;
@@ -102,7 +103,7 @@ void fill_all(benchmark::State &state) {
 template <class Peer>
 void list(benchmark::State &state) {
     Peer &peer = filled<Peer, true>();
-    Words out(2 * half_full);
+    Words out(2 * in_use);
     for (auto _ : state) benchmark::DoNotOptimize(peer.list(out));
 }
 
@@ -158,7 +159,7 @@ void put_with_split(benchmark::State &state) {
     Peer peer;
     Words before;
     word page = 1;
-    for (; page < half_full; page++) peer.put(page, place(page));
+    for (; page < in_use; page++) peer.put(page, place(page));
     for (;; page++) {
         before = peer.words;
         peer.put(page, place(page));
@@ -193,12 +194,12 @@ void worst_put(benchmark::State &state) {
 void linear_copy(benchmark::State &state) {
     Linear full;
     word page = 1;
-    for (; page < half_full || 2 * (page + 1) <= full.capacity(); page++) full.put(page, page);
+    for (; page < in_use || 2 * page <= full.capacity(); page++) full.put(page, page);
     for (auto _ : state) {
         state.PauseTiming();
         Linear copy = full;
         state.ResumeTiming();
-        benchmark::DoNotOptimize(copy.put(page + 1, 1));
+        benchmark::DoNotOptimize(copy.put(page, 1));
     }
 }
 
@@ -230,7 +231,7 @@ void add_scheme() {
         add<Peer>("get at depth", get_at_depth<Peer>)->Arg(depth);
         add<Peer>("put at depth", put_at_depth<Peer>)->Arg(depth);
     }
-    for (int pages = 20000; pages <= 160000; pages += 20000)
+    for (int pages = 40000; pages <= 160000; pages += 40000)
         add<Peer>("fill pages", fill_pages<Peer>)->Arg(pages)->Iterations(1)->Unit(benchmark::kMillisecond);
 }
 

@@ -17,8 +17,9 @@ const BUCKETS: u64 = 16;
 // The most directory bits of an index: document 01's largest D.
 const MOST_BITS: u32 = 12;
 
-// The numbers of four bits with their bits in reverse order.
-const REVERSED: [usize; 16] = [0, 8, 4, 12, 2, 10, 6, 14, 1, 9, 5, 13, 3, 11, 7, 15];
+// The numbers of four bits with their bits in reverse order: that of n is hexadecimal digit number n,
+// the last one being 0.
+const REVERSED: u64 = 0xF7B3D591E6A2C480;
 
 // An entry in range, or one that a call refuses as broken.
 pub enum Entry {
@@ -96,7 +97,8 @@ pub fn block_start(i: usize, depth: u32, local_depth: u32) -> usize
 fn first_bits(key: u64) -> usize
     ensures { λ r. ⌜ r ≡ index key 4 ⌝ }
 {
-    REVERSED[(key / BUCKETS % 16) as usize]
+    let place = (key / BUCKETS % 16) as u32;
+    ((REVERSED >> (4 * place)) % 16) as usize
 }
 
 // The key's index in the directory of this depth: its first directory bits, the first one heaviest.

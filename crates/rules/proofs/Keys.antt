@@ -3,7 +3,7 @@
 -- Assumes nothing.
 use mathlib.Core.Path.{_≡_, refl, sym, ap, _∙_}
 use mathlib.Core.Bool.{Bool, true, false, not, _&&_, and-false}
-use mathlib.Core.List.{List, [], _∷_, List·Memᴰ, List·Memᴰ·head, List·Memᴰ·eq-of-singleton}
+use mathlib.Core.List.{[], _∷_, List·Memᴰ, List·Memᴰ·head, List·Memᴰ·eq-of-singleton}
 use mathlib.Core.Logic.{⊎-elim}
 use Prim.Native.Nat.{ℕ, zero, suc, _+_, _*_, _-_, _/_, _%_, _^_, _≤_, _<_}
 use native.Mathlib.Nat.{add-zero, eq-or-lt-of-le, le-of-suc-le-suc, pow-succ', sub-self, sub-zero, mul-comm, mul-suc, add-mul, mod-lt, div-one, div-add-mod, div-div-eq-div-mul, div-lt-iff-lt-mul, div-eq-of-lt-le, mul-div-le, mul-mod-right, mul-le-mul-left, add-suc, pow-suc, mul-left-comm, mul-assoc, mul-div-right}
@@ -11,7 +11,6 @@ use native.Mathlib.Numerals.{one-add}
 use native.Mathlib.Omega.{arith}
 use borrow.Author.Tests.{eqb-true, eqb-false, not-true, eq-eqb, ne-eqb}
 use lib.Dec.{eqb}
-use lib.ListN.{getD}
 use lib.Pow.{pow-pos, pow-add, shr-shr, mod-pow-add, mod-mod-pow, field, pow-mono}
 use Rattle.stores.specs.Lists.{each, allBelow}
 use Rattle.stores.proofs.Tests.{and-left, and-right, and-true, same-test}
@@ -336,16 +335,16 @@ index-joined key m (suc n) =
     let twice : 2 ^ suc n * index key m ≡ 2 * (2 ^ n * index key m) = rw pow-succ' (mul-assoc 2 (2 ^ n) (index key m)) in
     rw (add-suc, index-suc key (m + n), bit-beyond key m n, index-suc (key / 2 ^ m) n, twice) (omega (arith, before))
 
--- The index at depth 4 by the four bits above the bucket: the numbers below 16 with their bits in reverse order.
-abbrev pub fourBits : List ℕ
-fourBits =
-    0 ∷ 8 ∷ 4 ∷ 12 ∷ 2 ∷ 10 ∷ 6 ∷ 14 ∷ 1 ∷ 9 ∷ 5 ∷ 13 ∷ 3 ∷ 11 ∷ 7 ∷ 15 ∷ []
+-- The numbers below 16 with their bits in reverse order, the number of b at the 16th power b: the index at depth 4 by the
+-- four bits above the bucket.
+abbrev pub reversed : ℕ
+reversed = 0xF7B3D591E6A2C480
 
-four-reversed : allBelow (λ b. eqb (getD fourBits b 0) (index (16 * b) 4)) 16 ≡ true
+four-reversed : allBelow (λ b. eqb (reversed / 2 ^ (4 * b) % 16) (index (16 * b) 4)) 16 ≡ true
 unfolding allBelow index bit
 four-reversed = refl
 
-pub index-four : (key : ℕ) → getD fourBits (key / 16 % 16) 0 ≡ index key 4
+pub index-four : (key : ℕ) → reversed / 2 ^ (4 * (key / 16 % 16)) % 16 ≡ index key 4
 index-four key =
-    eqb-true _ _ (all-at (λ b. eqb (getD fourBits b 0) (index (16 * b) 4)) 16 four-reversed (key / 16 % 16) (omega arith))
+    eqb-true _ _ (all-at (λ b. eqb (reversed / 2 ^ (4 * b) % 16) (index (16 * b) 4)) 16 four-reversed (key / 16 % 16) (omega arith))
     ∙ bits-index (16 * (key / 16 % 16)) key 4 (omega arith)
