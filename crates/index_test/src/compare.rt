@@ -50,16 +50,16 @@ pub struct Seen {
 // The number of a refusal.
 fn refusal_number(refusal: Refusal) -> u32 {
     match refusal {
-        Refusal::NoStore => 1,
-        Refusal::NoKey => 2,
-        Refusal::Broken => 3,
-        Refusal::Unmended => 4,
-        Refusal::TooDeep => 5,
-        Refusal::NoSegment => 6,
-        Refusal::CutOff => 7,
-        Refusal::BadShape => 8,
-        Refusal::TooShort => 9,
-        Refusal::ShortList => 10,
+        Refusal::NoStore => model::NO_STORE,
+        Refusal::NoKey => model::NO_KEY,
+        Refusal::Broken => model::BROKEN,
+        Refusal::Unmended => model::UNMENDED,
+        Refusal::TooDeep => model::TOO_DEEP,
+        Refusal::NoSegment => model::NO_SEGMENT,
+        Refusal::CutOff => model::CUT_OFF,
+        Refusal::BadShape => model::BAD_SHAPE,
+        Refusal::TooShort => model::TOO_SHORT,
+        Refusal::ShortList => model::SHORT_LIST,
     }
 }
 
@@ -164,7 +164,7 @@ fn judge(tally: &mut Tally, call: usize, answer: Answer, outcome: Outcome, same:
 }
 
 // Counts a format of the index that only the caller compares.
-pub fn count_alone(tally: &mut Tally, answer: Answer) -> Seen {
+pub(crate) fn count_alone(tally: &mut Tally, answer: Answer) -> Seen {
     let said = said_by(answer);
     let reply = said.reply;
     let stores = said.stores;
@@ -177,7 +177,7 @@ pub fn count_alone(tally: &mut Tally, answer: Answer) -> Seen {
 }
 
 // A format on both.
-pub fn compare_format(
+pub(crate) fn compare_format(
     words: &mut Cells,
     twin: &mut Cells,
     tally: &mut Tally,
@@ -193,7 +193,7 @@ pub fn compare_format(
 }
 
 // A get on both.
-pub fn compare_get(words: &Cells, twin: &Cells, tally: &mut Tally, key: u64) -> Seen {
+pub(crate) fn compare_get(words: &Cells, twin: &Cells, tally: &mut Tally, key: u64) -> Seen {
     let length = lent(tally);
     let answer = front::get(words, length, key);
     let outcome = model::calls::get(twin, length, key);
@@ -202,7 +202,7 @@ pub fn compare_get(words: &Cells, twin: &Cells, tally: &mut Tally, key: u64) -> 
 }
 
 // A put on both.
-pub fn compare_put(
+pub(crate) fn compare_put(
     words: &mut Cells,
     twin: &mut Cells,
     tally: &mut Tally,
@@ -218,7 +218,7 @@ pub fn compare_put(
 }
 
 // A remove on both.
-pub fn compare_remove(
+pub(crate) fn compare_remove(
     words: &mut Cells,
     twin: &mut Cells,
     tally: &mut Tally,
@@ -233,7 +233,7 @@ pub fn compare_remove(
 }
 
 // A mend on both.
-pub fn compare_mend(
+pub(crate) fn compare_mend(
     words: &mut Cells,
     twin: &mut Cells,
     tally: &mut Tally,
@@ -300,7 +300,7 @@ fn is_same_list(list: &Cells, twin_list: &Cells, count: usize) -> bool {
 }
 
 // A list on both, with `room` words of a list array.
-pub fn compare_list(words: &Cells, twin: &Cells, tally: &mut Tally, room: usize) -> Seen {
+pub(crate) fn compare_list(words: &Cells, twin: &Cells, tally: &mut Tally, room: usize) -> Seen {
     let mut list = [LIST_FILL; CELLS];
     let mut twin_list = [LIST_FILL; CELLS];
     let length = lent(tally);

@@ -193,21 +193,34 @@ fn key_for(table: &Cells, roll: u64) -> u64 {
     key_of(table, (roll / 16 % 48) as usize)
 }
 
-// A format on a damaged array: often of a small shape, at times of one that is refused.
+// The shape of a format on a damaged array: often a small one, at times one that is refused.
+fn any_shape(roll: u64) -> Setting {
+    if roll % 4 == 0 {
+        return Setting {
+            max_depth: roll / 4 % 15,
+            segments: roll / 64 % 40,
+            seed: 0,
+        };
+    }
+    Setting {
+        max_depth: 2 + roll / 4 % 3,
+        segments: 1 + roll / 64 % 4,
+        seed: 0,
+    }
+}
+
+// A format on a damaged array.
 fn any_format(words: &mut Cells, twin: &mut Cells, tally: &mut Tally, roll: u64) {
     let allowance = (roll / 4096 % 80) as u32;
-    if roll % 4 == 0 {
-        compare_format(words, twin, tally, roll / 4 % 15, roll / 64 % 40, allowance);
-    } else {
-        compare_format(
-            words,
-            twin,
-            tally,
-            2 + roll / 4 % 3,
-            1 + roll / 64 % 4,
-            allowance,
-        );
-    }
+    let shape = any_shape(roll);
+    compare_format(
+        words,
+        twin,
+        tally,
+        shape.max_depth,
+        shape.segments,
+        allowance,
+    );
 }
 
 // A random call on a damaged array.
@@ -322,7 +335,7 @@ fn setting_for(number: u64) -> Setting {
 }
 
 // All saved runs.
-pub fn test_damage(
+pub(crate) fn test_damage(
     words: &mut Cells,
     twin: &mut Cells,
     saved: &mut Cells,

@@ -14,7 +14,7 @@ fn within(length: usize, most: usize) -> usize
 }
 
 // A format of the first words.
-pub fn format(
+pub(crate) fn format(
     words: &mut [u64],
     length: usize,
     max_depth: u64,
@@ -28,13 +28,13 @@ pub fn format(
 }
 
 // A get in the first words.
-pub fn get(words: &[u64], length: usize, key: u64) -> Answer {
+pub(crate) fn get(words: &[u64], length: usize, key: u64) -> Answer {
     let end = within(length, words.len());
     index::get(&words[..end], key)
 }
 
 // A put into the first words.
-pub fn put(words: &mut [u64], length: usize, key: u64, value: u64, allowance: u32) -> Answer
+pub(crate) fn put(words: &mut [u64], length: usize, key: u64, value: u64, allowance: u32) -> Answer
     ensures { λ _. ⌜ SameLength (now (words .entry)) (now (words .exit)) ⌝ }
 {
     let end = within(length, words.len());
@@ -42,7 +42,7 @@ pub fn put(words: &mut [u64], length: usize, key: u64, value: u64, allowance: u3
 }
 
 // A remove from the first words.
-pub fn remove(words: &mut [u64], length: usize, key: u64, allowance: u32) -> Answer
+pub(crate) fn remove(words: &mut [u64], length: usize, key: u64, allowance: u32) -> Answer
     ensures { λ _. ⌜ SameLength (now (words .entry)) (now (words .exit)) ⌝ }
 {
     let end = within(length, words.len());
@@ -50,7 +50,7 @@ pub fn remove(words: &mut [u64], length: usize, key: u64, allowance: u32) -> Ans
 }
 
 // A mend of the first words.
-pub fn mend(words: &mut [u64], length: usize, allowance: u32) -> Answer
+pub(crate) fn mend(words: &mut [u64], length: usize, allowance: u32) -> Answer
     ensures { λ _. ⌜ SameLength (now (words .entry)) (now (words .exit)) ⌝ }
 {
     let end = within(length, words.len());
@@ -58,7 +58,7 @@ pub fn mend(words: &mut [u64], length: usize, allowance: u32) -> Answer
 }
 
 // A list of the first words into the first words of a list array.
-pub fn list(words: &[u64], length: usize, list: &mut [u64], room: usize) -> Answer
+pub(crate) fn list(words: &[u64], length: usize, list: &mut [u64], room: usize) -> Answer
     ensures { λ _. ⌜ SameLength (now (list .entry)) (now (list .exit)) ⌝ }
 {
     let end = within(length, words.len());

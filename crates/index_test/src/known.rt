@@ -27,6 +27,7 @@ use crate::words::Cells;
 use crate::words::set_word;
 use crate::words::word_at;
 use std::num::wrapping_add_u64;
+ghost use Rattle.index_test.specs.Lengths.{SameLength};
 
 const DEPTH: u64 = 2;
 
@@ -52,7 +53,42 @@ fn expect_seen(tally: &mut Tally, seen: Seen, reply: u32, stores: u32) {
     expect(tally, seen.stores == stores);
 }
 
-// A format, and puts of sixteen keys: `first`, and on by `step`.
+// A state: the put of a key behind sixteen others, 7 and on by `step`, with this number of segments and
+// this allowance, and the document's reply and stores.
+struct State {
+    segments: u64,
+    step: u64,
+    key: u64,
+    allowance: u32,
+    reply: u32,
+    stores: u32,
+}
+
+// Begins a case: both arrays empty, and this many words of them lent.
+fn begin(words: &mut Cells, twin: &mut Cells, tally: &mut Tally, length: usize) {
+    *words = [0u64; CELLS];
+    *twin = [0u64; CELLS];
+    lend(tally, length);
+    count(tally, CASES, 1);
+}
+
+// A format in a case of its own, with the document's reply and stores.
+fn format_state(
+    words: &mut Cells,
+    twin: &mut Cells,
+    tally: &mut Tally,
+    length: usize,
+    max_depth: u64,
+    segments: u64,
+    reply: u32,
+    stores: u32,
+) {
+    begin(words, twin, tally, length);
+    let seen = compare_format(words, twin, tally, max_depth, segments, ALLOWANCE);
+    expect_seen(tally, seen, reply, stores);
+}
+
+// A case with a format, and puts of sixteen keys: `first`, and on by `step`.
 fn fill(
     words: &mut Cells,
     twin: &mut Cells,
@@ -61,8 +97,7 @@ fn fill(
     first: u64,
     step: u64,
 ) {
-    count(tally, CASES, 1);
-    lend(tally, words_of(shape_from(0, DEPTH, segments)));
+    begin(words, twin, tally, words_of(shape_from(0, DEPTH, segments)));
     compare_format(words, twin, tally, DEPTH, segments, ALLOWANCE);
     let mut key = first;
     for _ in 0..WINDOW {
@@ -84,38 +119,39 @@ fn is_filled(words: &Cells, slot: usize, first: u64, step: u64) -> bool {
     true
 }
 
+// Compares a word of the array with the document's.
+fn expect_word(tally: &mut Tally, words: &Cells, at: usize, word: u64) {
+    expect(tally, word_at(words, at) == word);
+}
+
+// A state of the kind of e to i: the sixteen keys fill the slots 28 to 43, and then the put.
+fn put_state(words: &mut Cells, twin: &mut Cells, tally: &mut Tally, state: State) {
+    fill(words, twin, tally, state.segments, 7, state.step);
+    expect(tally, is_filled(words, 28, 7, state.step));
+    let seen = compare_put(words, twin, tally, state.key, 1, state.allowance);
+    expect_seen(tally, seen, state.reply, state.stores);
+}
+
 // a: word 0 after format, and the least length.
-fn state_a(tally: &mut Tally) {
-    let mut words = [0u64; CELLS];
-    let mut twin = [0u64; CELLS];
-    count(tally, CASES, 2);
-    lend(tally, WORDS_4 - 1);
-    let short = compare_format(&mut words, &mut twin, tally, DEPTH, 4, ALLOWANCE);
-    expect_seen(tally, short, TOO_SHORT, 0);
-    lend(tally, WORDS_4);
-    let done = compare_format(&mut words, &mut twin, tally, DEPTH, 4, ALLOWANCE);
-    expect_seen(tally, done, DONE, 67);
-    expect(tally, words[0] == FIRST_WORD_A);
+fn state_a(words: &mut Cells, twin: &mut Cells, tally: &mut Tally) {
+    format_state(words, twin, tally, WORDS_4 - 1, DEPTH, 4, TOO_SHORT, 0);
+    format_state(words, twin, tally, WORDS_4, DEPTH, 4, DONE, 67);
+    expect_word(tally, words, 0, FIRST_WORD_A);
 }
 
 // b: the first put.
-fn state_b(tally: &mut Tally) {
-    let mut words = [0u64; CELLS];
-    let mut twin = [0u64; CELLS];
-    count(tally, CASES, 1);
-    lend(tally, WORDS_4);
-    compare_format(&mut words, &mut twin, tally, DEPTH, 4, ALLOWANCE);
-    let seen = compare_put(&mut words, &mut twin, tally, 7, 70, ALLOWANCE);
+fn state_b(words: &mut Cells, twin: &mut Cells, tally: &mut Tally) {
+    format_state(words, twin, tally, WORDS_4, DEPTH, 4, DONE, 67);
+    let seen = compare_put(words, twin, tally, 7, 70, ALLOWANCE);
     expect_seen(tally, seen, DONE, 2);
-    expect(tally, words[65] == 70 && words[64] == 7);
+    expect_word(tally, words, 65, 70);
+    expect_word(tally, words, 64, 7);
 }
 
 // c: key 15 has the buckets 15, 0, 1, 2: keys of its bucket fill the slots 60 to 63 and 0 to 11.
-fn state_c(tally: &mut Tally) {
-    let mut words = [0u64; CELLS];
-    let mut twin = [0u64; CELLS];
-    fill(&mut words, &mut twin, tally, 4, 15, 16);
-    expect(tally, is_filled(&words, 60, 15, 16));
+fn state_c(words: &mut Cells, twin: &mut Cells, tally: &mut Tally) {
+    fill(words, twin, tally, 4, 15, 16);
+    expect(tally, is_filled(words, 60, 15, 16));
 }
 
 // The directory of depth 2 with four segments.
@@ -130,129 +166,119 @@ fn deepen(words: &mut Cells) {
 // Puts a key into the directory of depth 2, and compares the segment it lands in with its index.
 fn expect_index(words: &mut Cells, twin: &mut Cells, tally: &mut Tally, key: u64, index: usize) {
     compare_put(words, twin, tally, key, key, ALLOWANCE);
-    expect(tally, word_at(words, 64 + 128 * (index % 4)) == key);
+    expect_word(tally, words, 64 + 128 * (index % 4), key);
 }
 
 // d: at depth 2 the keys 7, 39, 23, 55 have the indices 0, 1, 2, 3.
-fn state_d(tally: &mut Tally) {
-    let mut words = [0u64; CELLS];
-    let mut twin = [0u64; CELLS];
-    count(tally, CASES, 1);
-    lend(tally, WORDS_4);
-    deepen(&mut words);
-    deepen(&mut twin);
-    expect_index(&mut words, &mut twin, tally, 7, 0);
-    expect_index(&mut words, &mut twin, tally, 39, 1);
-    expect_index(&mut words, &mut twin, tally, 23, 2);
-    expect_index(&mut words, &mut twin, tally, 55, 3);
+fn state_d(words: &mut Cells, twin: &mut Cells, tally: &mut Tally) {
+    begin(words, twin, tally, WORDS_4);
+    deepen(words);
+    deepen(twin);
+    expect_index(words, twin, tally, 7, 0);
+    expect_index(words, twin, tally, 39, 1);
+    expect_index(words, twin, tally, 23, 2);
+    expect_index(words, twin, tally, 55, 3);
 }
 
-// e: the put that splits.
-fn state_e(tally: &mut Tally) {
-    let mut words = [0u64; CELLS];
-    let mut twin = [0u64; CELLS];
-    fill(&mut words, &mut twin, tally, 4, 7, 16);
-    expect(tally, is_filled(&words, 28, 7, 16));
-    let seen = compare_put(&mut words, &mut twin, tally, 263, 1, ALLOWANCE);
-    expect_seen(tally, seen, DONE, 79);
-    expect(tally, words[66] == 263);
+// The put of state e, with this number of segments and this allowance.
+fn put_263(segments: u64, allowance: u32, reply: u32, stores: u32) -> State {
+    State {
+        segments,
+        step: 16,
+        key: 263,
+        allowance,
+        reply,
+        stores,
+    }
 }
 
-// f: the same put allowed 78.
-fn state_f(tally: &mut Tally) {
-    let mut words = [0u64; CELLS];
-    let mut twin = [0u64; CELLS];
-    fill(&mut words, &mut twin, tally, 4, 7, 16);
-    let seen = compare_put(&mut words, &mut twin, tally, 263, 1, 78);
-    expect_seen(tally, seen, CUT_OFF, 78);
-    let lookup = compare_get(&words, &twin, tally, 263);
+// The put of state i, whose keys share their first two route bits, with this number of segments.
+fn put_1031(segments: u64, reply: u32, stores: u32) -> State {
+    State {
+        segments,
+        step: 64,
+        key: 1031,
+        allowance: ALLOWANCE,
+        reply,
+        stores,
+    }
+}
+
+// e: the put that splits. f: the same put allowed 78.
+fn states_e_f(words: &mut Cells, twin: &mut Cells, tally: &mut Tally) {
+    put_state(words, twin, tally, put_263(4, ALLOWANCE, DONE, 79));
+    expect_word(tally, words, 66, 263);
+    put_state(words, twin, tally, put_263(4, 78, CUT_OFF, 78));
+    let lookup = compare_get(words, twin, tally, 263);
     expect_seen(tally, lookup, ABSENT, 0);
 }
 
 // g: the same put allowed 76.
-fn state_g(tally: &mut Tally) {
-    let mut words = [0u64; CELLS];
-    let mut twin = [0u64; CELLS];
-    fill(&mut words, &mut twin, tally, 4, 7, 16);
-    let cut = compare_put(&mut words, &mut twin, tally, 263, 1, 76);
-    expect_seen(tally, cut, CUT_OFF, 76);
-    expect(tally, words[2] == 0 && words[3] == 0x100000001);
-    let refused = compare_put(&mut words, &mut twin, tally, 263, 1, ALLOWANCE);
+fn state_g(words: &mut Cells, twin: &mut Cells, tally: &mut Tally) {
+    put_state(words, twin, tally, put_263(4, 76, CUT_OFF, 76));
+    expect_word(tally, words, 2, 0);
+    expect_word(tally, words, 3, 0x100000001);
+    let refused = compare_put(words, twin, tally, 263, 1, ALLOWANCE);
     expect_seen(tally, refused, UNMENDED, 0);
-    let mended = compare_mend(&mut words, &mut twin, tally, ALLOWANCE);
+    let mended = compare_mend(words, twin, tally, ALLOWANCE);
     expect_seen(tally, mended, DONE, 1);
 }
 
-// h: as e with one segment.
-fn state_h(tally: &mut Tally) {
-    let mut words = [0u64; CELLS];
-    let mut twin = [0u64; CELLS];
-    fill(&mut words, &mut twin, tally, 1, 7, 16);
-    let seen = compare_put(&mut words, &mut twin, tally, 263, 1, ALLOWANCE);
-    expect_seen(tally, seen, NO_SEGMENT, 0);
-}
-
-// i: keys that share their first two route bits, with this number of segments.
-fn state_i(tally: &mut Tally, segments: u64, reply: u32, stores: u32) {
-    let mut words = [0u64; CELLS];
-    let mut twin = [0u64; CELLS];
-    fill(&mut words, &mut twin, tally, segments, 7, 64);
-    let seen = compare_put(&mut words, &mut twin, tally, 1031, 1, ALLOWANCE);
-    expect_seen(tally, seen, reply, stores);
+// h: as e with one segment. i: with four, three and two segments.
+fn states_h_i(words: &mut Cells, twin: &mut Cells, tally: &mut Tally) {
+    put_state(words, twin, tally, put_263(1, ALLOWANCE, NO_SEGMENT, 0));
+    put_state(words, twin, tally, put_1031(4, TOO_DEEP, 140));
+    put_state(words, twin, tally, put_1031(3, TOO_DEEP, 140));
+    put_state(words, twin, tally, put_1031(2, NO_SEGMENT, 69));
 }
 
 // j: shapes that are refused.
-fn state_j(tally: &mut Tally) {
-    let mut words = [0u64; CELLS];
-    let mut twin = [0u64; CELLS];
-    count(tally, CASES, 3);
-    lend(tally, WORDS_4);
-    let shallow = compare_format(&mut words, &mut twin, tally, 1, 4, ALLOWANCE);
-    expect_seen(tally, shallow, BAD_SHAPE, 0);
-    let deep = compare_format(&mut words, &mut twin, tally, 13, 4, ALLOWANCE);
-    expect_seen(tally, deep, BAD_SHAPE, 0);
-    let many = compare_format(&mut words, &mut twin, tally, DEPTH, 5, ALLOWANCE);
-    expect_seen(tally, many, BAD_SHAPE, 0);
+fn state_j(words: &mut Cells, twin: &mut Cells, tally: &mut Tally) {
+    format_state(words, twin, tally, WORDS_4, 1, 4, BAD_SHAPE, 0);
+    format_state(words, twin, tally, WORDS_4, 13, 4, BAD_SHAPE, 0);
+    format_state(words, twin, tally, WORDS_4, DEPTH, 5, BAD_SHAPE, 0);
 }
 
-// Whether every word but word 0 is 0.
-fn is_empty_behind(words: &[u64]) -> bool {
-    for i in 1..words.len() {
-        if words[i] != 0 {
+// Whether word 0 is this one, and every other word 0.
+fn is_formatted(words: &[u64], first: u64) -> bool {
+    for i in 0..words.len() {
+        let expected = if i == 0 { first } else { 0 };
+        if words[i] != expected {
             return false;
         }
     }
     true
 }
 
+// A format of the largest shape on this many words.
+fn format_largest(words: &mut [u64], tally: &mut Tally, length: usize, reply: u32, stores: u32)
+    ensures { λ _. ⌜ SameLength (now (words .entry)) (now (words .exit)) ⌝ }
+{
+    count(tally, CASES, 1);
+    let answer = front::format(words, length, 12, 4096, ALLOWANCE);
+    let seen = count_alone(tally, answer);
+    expect_seen(tally, seen, reply, stores);
+}
+
 // k: the largest shape. Two such arrays pass the stack, so this state goes without the model: a scan
 // compares the words.
 fn state_k(tally: &mut Tally) {
     let mut words = [0u64; WORDS_K];
-    count(tally, CASES, 2);
-    let short = front::format(&mut words, WORDS_K - 1, 12, 4096, ALLOWANCE);
-    let seen_short = count_alone(tally, short);
-    expect_seen(tally, seen_short, TOO_SHORT, 0);
-    expect(tally, words[0] == 0 && is_empty_behind(&words));
-    let done = front::format(&mut words, WORDS_K, 12, 4096, ALLOWANCE);
-    let seen_done = count_alone(tally, done);
-    expect_seen(tally, seen_done, DONE, 67);
-    expect(tally, words[0] == FIRST_WORD_K && is_empty_behind(&words));
+    format_largest(&mut words, tally, WORDS_K - 1, TOO_SHORT, 0);
+    expect(tally, is_formatted(&words, 0));
+    format_largest(&mut words, tally, WORDS_K, DONE, 67);
+    expect(tally, is_formatted(&words, FIRST_WORD_K));
 }
 
 // All known states.
-pub fn test_known(tally: &mut Tally) {
-    state_a(tally);
-    state_b(tally);
-    state_c(tally);
-    state_d(tally);
-    state_e(tally);
-    state_f(tally);
-    state_g(tally);
-    state_h(tally);
-    state_i(tally, 4, TOO_DEEP, 140);
-    state_i(tally, 3, TOO_DEEP, 140);
-    state_i(tally, 2, NO_SEGMENT, 69);
-    state_j(tally);
+pub(crate) fn test_known(words: &mut Cells, twin: &mut Cells, tally: &mut Tally) {
+    state_a(words, twin, tally);
+    state_b(words, twin, tally);
+    state_c(words, twin, tally);
+    state_d(words, twin, tally);
+    states_e_f(words, twin, tally);
+    state_g(words, twin, tally);
+    states_h_i(words, twin, tally);
+    state_j(words, twin, tally);
     state_k(tally);
 }

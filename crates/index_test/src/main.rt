@@ -23,12 +23,14 @@ use tally::begin_family;
 use words::CELLS;
 use worst::test_worst;
 
-// Families 2, 3 and 4, on two arrays, one for the index and one for the model, and one saved.
-fn test_on_arrays(tally: &mut Tally) {
+// The families in order, on two arrays, one for the index and one for the model, and one saved.
+fn test_families(tally: &mut Tally) {
     let mut words = [0u64; CELLS];
     let mut twin = [0u64; CELLS];
     let mut saved = [0u64; CELLS];
     let mut table = [0u64; CELLS];
+    begin_family(tally, 0);
+    test_known(&mut words, &mut twin, tally);
     begin_family(tally, 1);
     test_runs(&mut words, &mut twin, &mut saved, &mut table, tally);
     begin_family(tally, 2);
@@ -37,11 +39,9 @@ fn test_on_arrays(tally: &mut Tally) {
     test_worst(&mut words, &mut twin, &mut saved, tally);
 }
 
-// The families in order, then the table.
+// All families, then the table.
 fn main() {
     let mut tally = [0u64; TALLY_WORDS];
-    begin_family(&mut tally, 0);
-    test_known(&mut tally);
-    test_on_arrays(&mut tally);
+    test_families(&mut tally);
     write_table(&tally);
 }

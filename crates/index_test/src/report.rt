@@ -18,6 +18,29 @@ const WIDTH: u64 = 12;
 // The replies of a call, as the test numbers them: done, ten refusals, absent.
 const REPLY_COUNT: u32 = 12;
 
+// The names of the families and of the replies.
+const FAMILY_NAMES: [[u8; 14]; FAMILIES] = [
+    *b"1 known states",
+    *b"2 runs        ",
+    *b"3 damage      ",
+    *b"4 worst put   ",
+];
+
+const REPLY_NAMES: [[u8; 14]; 12] = [
+    *b"done          ",
+    *b"1 no store    ",
+    *b"2 no key      ",
+    *b"3 broken      ",
+    *b"4 unmended    ",
+    *b"5 too deep    ",
+    *b"6 no segment  ",
+    *b"7 cut off     ",
+    *b"8 bad shape   ",
+    *b"9 too short   ",
+    *b"10 short list ",
+    *b"absent        ",
+];
+
 // The digits of a number.
 fn digits_of(number: u64) -> u64 {
     if number < 10 {
@@ -52,20 +75,15 @@ fn write_number(number: u64) {
     io::print_decimal(STDOUT, number);
 }
 
-// Writes the name of a family.
-fn write_family(family: usize) {
-    match family {
-        0 => io::write_all(STDOUT, b"1 known states"),
-        1 => io::write_all(STDOUT, b"2 runs        "),
-        2 => io::write_all(STDOUT, b"3 damage      "),
-        _ => io::write_all(STDOUT, b"4 worst put   "),
-    }
-    ;
+// Writes the name of a family or a reply.
+fn write_name(name: &[u8; 14]) {
+    io::write_all(STDOUT, name);
 }
 
 // Writes the line of a family.
 fn write_counts(tally: &Tally, family: usize) {
-    write_family(family);
+    let name = FAMILY_NAMES[family % FAMILIES];
+    write_name(&name);
     write_number(counted(tally, family, CASES));
     write_number(counted(tally, family, CALLS));
     write_number(counted(tally, family, CUT_CALLS));
@@ -75,28 +93,10 @@ fn write_counts(tally: &Tally, family: usize) {
     io::write_all(STDOUT, b"\n");
 }
 
-// Writes the name of a reply.
-fn write_reply(reply: u32) {
-    match reply {
-        0 => io::write_all(STDOUT, b"done          "),
-        1 => io::write_all(STDOUT, b"1 no store    "),
-        2 => io::write_all(STDOUT, b"2 no key      "),
-        3 => io::write_all(STDOUT, b"3 broken      "),
-        4 => io::write_all(STDOUT, b"4 unmended    "),
-        5 => io::write_all(STDOUT, b"5 too deep    "),
-        6 => io::write_all(STDOUT, b"6 no segment  "),
-        7 => io::write_all(STDOUT, b"7 cut off     "),
-        8 => io::write_all(STDOUT, b"8 bad shape   "),
-        9 => io::write_all(STDOUT, b"9 too short   "),
-        10 => io::write_all(STDOUT, b"10 short list "),
-        _ => io::write_all(STDOUT, b"absent        "),
-    }
-    ;
-}
-
 // Writes how often each call had a reply.
 fn write_replies(tally: &Tally, reply: u32) {
-    write_reply(reply);
+    let name = REPLY_NAMES[reply as usize % 12];
+    write_name(&name);
     for call in 0..6 {
         write_number(replies_counted(tally, call, reply));
     }
@@ -111,7 +111,7 @@ fn write_families(tally: &Tally) {
 }
 
 // Writes the whole table.
-pub fn write_table(tally: &Tally) {
+pub(crate) fn write_table(tally: &Tally) {
     io::write_all(
         STDOUT,
         b"family               cases       calls   cut calls      stores     lookups differences\n",

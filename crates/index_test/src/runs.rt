@@ -52,6 +52,12 @@ pub struct Setting {
     pub seed: u64,
 }
 
+// A key with its value.
+struct Record {
+    key: u64,
+    value: u64,
+}
+
 // The segments of a run: all that its depth allows, three quarters, half, or a few.
 fn segments_for(max_depth: u64, run: u64) -> u64 {
     let most = power((max_depth % 13) as u32) as u64;
@@ -82,7 +88,7 @@ fn key_for(setting: Setting, number: u64, roll: u64) -> u64 {
 }
 
 // Draws the keys of a run.
-pub fn draw_keys(table: &mut Cells, setting: Setting) {
+pub(crate) fn draw_keys(table: &mut Cells, setting: Setting) {
     let mut roll = from_seed(setting.seed);
     for number in 0..KEYS {
         roll = next(roll);
@@ -91,7 +97,7 @@ pub fn draw_keys(table: &mut Cells, setting: Setting) {
 }
 
 // Fills an array with random words: a format has to stand any.
-pub fn scatter(words: &mut Cells, seed: u64) {
+pub(crate) fn scatter(words: &mut Cells, seed: u64) {
     let mut roll = from_seed(seed);
     for at in 0..CELLS {
         roll = next(roll);
@@ -111,7 +117,7 @@ fn recover(words: &mut Cells, twin: &mut Cells, tally: &mut Tally, allowance: u3
 }
 
 // Both arrays as they were when saved.
-pub fn restore(words: &mut Cells, twin: &mut Cells, saved: &Cells) {
+pub(crate) fn restore(words: &mut Cells, twin: &mut Cells, saved: &Cells) {
     copy_words(saved, words);
     copy_words(saved, twin);
 }
@@ -123,34 +129,42 @@ fn cut_once(
     saved: &Cells,
     table: &Cells,
     tally: &mut Tally,
-    key: u64,
-    value: u64,
+    record: Record,
     allowance: u32,
 ) {
     restore(words, twin, saved);
-    compare_put(words, twin, tally, key, value, allowance);
+    compare_put(words, twin, tally, record.key, record.value, allowance);
     recover(words, twin, tally, allowance % 3);
     look_up_all(words, table, tally);
-    compare_put(words, twin, tally, key, value, ALL_STORES);
+    compare_put(words, twin, tally, record.key, record.value, ALL_STORES);
 }
 
-// A put cut at every number of its stores.
+// A put cut at every number of its stores, and then made whole.
 fn cut_everywhere(
     words: &mut Cells,
     twin: &mut Cells,
     saved: &Cells,
     table: &Cells,
     tally: &mut Tally,
-    key: u64,
-    value: u64,
+    record: Record,
     stores: u32,
 ) {
     for allowance in 0..stores {
-        cut_once(words, twin, saved, table, tally, key, value, allowance);
+        cut_once(words, twin, saved, table, tally, record, allowance);
     }
+    restore(words, twin, saved);
+    compare_put(words, twin, tally, record.key, record.value, ALL_STORES);
 }
 
-// A put that all its stores are allowed. One that splits, or that `chosen` picks, is cut everywhere
+// Whether a put of so many stores is cut: where it splits, and where it is `chosen`.
+fn is_cut(stores: u32, chosen: bool) -> bool {
+    if chosen {
+        return true;
+    }
+    2 < stores
+}
+
+// A put that all its stores are allowed. One that splits, and one in eight others, is cut everywhere
 // first.
 fn put_step(
     words: &mut Cells,
@@ -160,15 +174,15 @@ fn put_step(
     tally: &mut Tally,
     number: usize,
     value: u64,
-    chosen: bool,
 ) {
-    let key = key_of(table, number);
+    let record = Record {
+        key: key_of(table, number),
+        value,
+    };
     copy_words(words, saved);
-    let whole = compare_put(words, twin, tally, key, value, ALL_STORES);
-    if 2 < whole.stores || chosen {
-        cut_everywhere(words, twin, saved, table, tally, key, value, whole.stores);
-        restore(words, twin, saved);
-        compare_put(words, twin, tally, key, value, ALL_STORES);
+    let whole = compare_put(words, twin, tally, record.key, value, ALL_STORES);
+    if is_cut(whole.stores, value % 8 == 0) {
+        cut_everywhere(words, twin, saved, table, tally, record, whole.stores);
     }
     if whole.reply == DONE {
         tell_put(table, number, value);
@@ -223,15 +237,46 @@ fn room_for(table: &Cells, roll: u64) -> usize {
     }
 }
 
-// A format that is refused, as a run may have it.
-fn refused_format(words: &mut Cells, twin: &mut Cells, tally: &mut Tally, roll: u64) {
-    match roll % 4 {
-        0 => compare_format(words, twin, tally, 1, 1, ALL_STORES),
-        1 => compare_format(words, twin, tally, 13, 1, ALL_STORES),
-        2 => compare_format(words, twin, tally, 4, 17, ALL_STORES),
-        _ => compare_format(words, twin, tally, 12, 4096, ALL_STORES),
+// A shape that a format refuses, as a run may have it.
+fn refused_shape(roll: u64) -> Setting {
+    let max_depth = match roll % 4 {
+        0 => 1,
+        1 => 13,
+        2 => 4,
+        _ => 12,
+    };
+    let segments = match roll % 4 {
+        0 => 1,
+        1 => 1,
+        2 => 17,
+        _ => 4096,
+    };
+    Setting {
+        max_depth,
+        segments,
+        seed: 0,
     }
-    ;
+}
+
+// A format that is refused.
+fn refused_format(words: &mut Cells, twin: &mut Cells, tally: &mut Tally, roll: u64) {
+    let shape = refused_shape(roll);
+    compare_format(
+        words,
+        twin,
+        tally,
+        shape.max_depth,
+        shape.segments,
+        ALL_STORES,
+    );
+}
+
+// The allowance of a remove: half of them all stores, the others none or one.
+fn remove_allowance(roll: u64) -> u32 {
+    if roll % 2 == 0 {
+        return ALL_STORES;
+    }
+    (roll / 1024 % 2) as u32
 }
 
 // One step of a run, by a random number.
@@ -246,18 +291,8 @@ fn step(
     let number = (roll / 16 % 48) as usize;
     let value = roll / 1024;
     match roll % 16 {
-        0..=7 => put_step(
-            words,
-            twin,
-            saved,
-            table,
-            tally,
-            number,
-            value,
-            value % 8 == 0,
-        ),
-        8 => remove_step(words, twin, table, tally, number, ALL_STORES),
-        9 => remove_step(words, twin, table, tally, number, (value % 2) as u32),
+        0..=7 => put_step(words, twin, saved, table, tally, number, value),
+        8 | 9 => remove_step(words, twin, table, tally, number, remove_allowance(roll)),
         10 => {
             compare_get(words, twin, tally, key_of(table, number));
         }
@@ -343,7 +378,7 @@ fn runs_at(
 }
 
 // All runs.
-pub fn test_runs(
+pub(crate) fn test_runs(
     words: &mut Cells,
     twin: &mut Cells,
     saved: &mut Cells,

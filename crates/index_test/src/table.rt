@@ -16,29 +16,29 @@ use std::num::wrapping_add_usize;
 pub const KEYS: usize = 48;
 
 // The key of an entry.
-pub fn key_of(table: &Cells, number: usize) -> u64 {
+pub(crate) fn key_of(table: &Cells, number: usize) -> u64 {
     word_at(table, 3 * (number % KEYS))
 }
 
 // Makes an entry: a key without a value.
-pub fn set_key(table: &mut Cells, number: usize, key: u64) {
+pub(crate) fn set_key(table: &mut Cells, number: usize, key: u64) {
     set_word(table, 3 * (number % KEYS), key);
     set_word(table, 3 * (number % KEYS) + 1, 0);
 }
 
 // A done put: the key's value, whether it had one or not.
-pub fn tell_put(table: &mut Cells, number: usize, value: u64) {
+pub(crate) fn tell_put(table: &mut Cells, number: usize, value: u64) {
     set_word(table, 3 * (number % KEYS) + 1, 1);
     set_word(table, 3 * (number % KEYS) + 2, value);
 }
 
 // A done remove: the key has no value.
-pub fn tell_remove(table: &mut Cells, number: usize) {
+pub(crate) fn tell_remove(table: &mut Cells, number: usize) {
     set_word(table, 3 * (number % KEYS) + 1, 0);
 }
 
 // How many keys have a value.
-pub fn size_of(table: &Cells) -> usize {
+pub(crate) fn size_of(table: &Cells) -> usize {
     let mut size: usize = 0;
     for number in 0..KEYS {
         if word_at(table, 3 * number + 1) != 0 {
@@ -62,7 +62,7 @@ fn is_as_told(words: &Cells, length: usize, table: &Cells, number: usize) -> boo
 }
 
 // Looks every key up in the index, and counts where it differs from the table.
-pub fn look_up_all(words: &Cells, table: &Cells, tally: &mut Tally) {
+pub(crate) fn look_up_all(words: &Cells, table: &Cells, tally: &mut Tally) {
     for number in 0..KEYS {
         count(tally, LOOKUPS, 1);
         let told = is_as_told(words, lent(tally), table, number);

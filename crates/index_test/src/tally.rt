@@ -65,17 +65,17 @@ fn count_at(tally: &Tally, at: usize) -> u64 {
 }
 
 // Begins a family: what is counted from now on is counted for it.
-pub fn begin_family(tally: &mut Tally, family: usize) {
+pub(crate) fn begin_family(tally: &mut Tally, family: usize) {
     tally[FAMILY] = family as u64;
 }
 
 // Lends the first words of the arrays to the calls that follow.
-pub fn lend(tally: &mut Tally, length: usize) {
+pub(crate) fn lend(tally: &mut Tally, length: usize) {
     tally[LENT] = length as u64;
 }
 
 // How many words are lent.
-pub fn lent(tally: &Tally) -> usize {
+pub(crate) fn lent(tally: &Tally) -> usize {
     tally[LENT] as usize
 }
 
@@ -85,13 +85,13 @@ fn place_of(family: usize, column: usize) -> usize {
 }
 
 // Counts in a column of the family at work.
-pub fn count(tally: &mut Tally, column: usize, amount: u64) {
+pub(crate) fn count(tally: &mut Tally, column: usize, amount: u64) {
     let family = tally[FAMILY] as usize;
     add(tally, place_of(family, column), amount);
 }
 
 // Counts a comparison: a difference if it failed.
-pub fn expect(tally: &mut Tally, holds: bool) {
+pub(crate) fn expect(tally: &mut Tally, holds: bool) {
     if !holds {
         count(tally, DIFFERENCES, 1);
     }
@@ -103,16 +103,16 @@ fn place_of_reply(call: usize, reply: u32) -> usize {
 }
 
 // Counts a reply of a call.
-pub fn count_reply(tally: &mut Tally, call: usize, reply: u32) {
+pub(crate) fn count_reply(tally: &mut Tally, call: usize, reply: u32) {
     add(tally, place_of_reply(call, reply), 1);
 }
 
 // What was counted in a column of a family.
-pub fn counted(tally: &Tally, family: usize, column: usize) -> u64 {
+pub(crate) fn counted(tally: &Tally, family: usize, column: usize) -> u64 {
     count_at(tally, place_of(family, column))
 }
 
 // How often a call had a reply.
-pub fn replies_counted(tally: &Tally, call: usize, reply: u32) -> u64 {
+pub(crate) fn replies_counted(tally: &Tally, call: usize, reply: u32) -> u64 {
     count_at(tally, place_of_reply(call, reply))
 }

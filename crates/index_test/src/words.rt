@@ -8,7 +8,7 @@ pub const CELLS: usize = 10000;
 pub type Cells = [u64; CELLS];
 
 // The word at an address, 0 outside the array.
-pub fn word_at(cells: &Cells, at: usize) -> u64 {
+pub(crate) fn word_at(cells: &Cells, at: usize) -> u64 {
     if at < CELLS {
         return cells[at];
     }
@@ -16,13 +16,13 @@ pub fn word_at(cells: &Cells, at: usize) -> u64 {
 }
 
 // Stores a word at an address of the array.
-pub fn set_word(cells: &mut Cells, at: usize, value: u64) {
+pub(crate) fn set_word(cells: &mut Cells, at: usize, value: u64) {
     if at < CELLS {
         cells[at] = value;
     }
 }
 
 // Makes an array equal to another.
-pub fn copy_words(from: &Cells, to: &mut Cells) {
+pub(crate) fn copy_words(from: &Cells, to: &mut Cells) {
     *to = *from;
 }

@@ -117,7 +117,12 @@ fn whole_worst(words: &mut Cells, twin: &mut Cells, tally: &mut Tally) {
 }
 
 // The family.
-pub fn test_worst(words: &mut Cells, twin: &mut Cells, saved: &mut Cells, tally: &mut Tally) {
+pub(crate) fn test_worst(
+    words: &mut Cells,
+    twin: &mut Cells,
+    saved: &mut Cells,
+    tally: &mut Tally,
+) {
     lend(tally, WORST_WORDS);
     compare_format(words, twin, tally, 12, 13, ALL_STORES);
     fill_segment(words, twin, tally);

@@ -27,7 +27,7 @@ pub struct Shape {
 }
 
 // 2 to the power of a number up to 16; 65,536 above.
-pub fn power(exponent: u32) -> u32
+pub(crate) fn power(exponent: u32) -> u32
     ensures { λ r. ⌜ (1 ≤ r) × (r ≤ 65536) ⌝ }
 {
     match exponent {
@@ -52,7 +52,7 @@ pub fn power(exponent: u32) -> u32
 }
 
 // The shape of these fields, if document 01 allows them: D 2 to 12, G at most D, S 1 to 2^D.
-pub fn shape_from(depth: u64, max_depth: u64, segments: u64) -> Shape {
+pub(crate) fn shape_from(depth: u64, max_depth: u64, segments: u64) -> Shape {
     let unsound = Shape {
         sound: false,
         depth: 0,
@@ -83,13 +83,13 @@ pub fn shape_from(depth: u64, max_depth: u64, segments: u64) -> Shape {
 }
 
 // The words that the shape takes: 2^(D+1) + 128 S.
-pub fn words_of(shape: Shape) -> usize {
+pub(crate) fn words_of(shape: Shape) -> usize {
     2 * (power(shape.max_depth) as usize) + SEGMENT_WORDS * (shape.segments as usize)
 }
 
 // The shape that word 0 gives to an array of this length. It is sound only if that has the words for
 // it.
-pub fn shape_of(words: &Cells, length: usize) -> Shape {
+pub(crate) fn shape_of(words: &Cells, length: usize) -> Shape {
     let unsound = shape_from(0, 0, 0);
     if length == 0 {
         return unsound;
@@ -110,7 +110,7 @@ pub fn shape_of(words: &Cells, length: usize) -> Shape {
 }
 
 // The sound word 0 of this depth.
-pub fn first_word(shape: Shape, depth: u32) -> u64 {
+pub(crate) fn first_word(shape: Shape, depth: u32) -> u64 {
     MARK * MARK_UNIT
         + shape.segments as u64 * SEGMENTS_UNIT
         + shape.max_depth as u64 * MAX_DEPTH_UNIT
@@ -118,36 +118,36 @@ pub fn first_word(shape: Shape, depth: u32) -> u64 {
 }
 
 // The address of an entry in the directory of this depth.
-pub fn entry_address(depth: u32, index: u32) -> usize {
+pub(crate) fn entry_address(depth: u32, index: u32) -> usize {
     power(depth) as usize + index as usize
 }
 
 // The entry at an index of the directory of this depth.
-pub fn entry_at(words: &Cells, depth: u32, index: u32) -> u64 {
+pub(crate) fn entry_at(words: &Cells, depth: u32, index: u32) -> u64 {
     word_at(words, entry_address(depth, index))
 }
 
 // An entry from its parts, and the parts of an entry.
-pub fn entry_of(segment: u32, local_depth: u32) -> u64 {
+pub(crate) fn entry_of(segment: u32, local_depth: u32) -> u64 {
     local_depth as u64 * LOCAL_DEPTH_UNIT + segment as u64
 }
 
 // The segment number of an entry.
-pub fn segment_of(entry: u64) -> u32 {
+pub(crate) fn segment_of(entry: u64) -> u32 {
     (entry % LOCAL_DEPTH_UNIT) as u32
 }
 
 // The local depth of an entry.
-pub fn local_depth_of(entry: u64) -> u32 {
+pub(crate) fn local_depth_of(entry: u64) -> u32 {
     (entry / LOCAL_DEPTH_UNIT) as u32
 }
 
 // The address of a slot's key.
-pub fn key_address(max_depth: u32, segment: u32, slot: u32) -> usize {
+pub(crate) fn key_address(max_depth: u32, segment: u32, slot: u32) -> usize {
     2 * (power(max_depth) as usize) + SEGMENT_WORDS * (segment as usize) + 2 * (slot as usize)
 }
 
 // The address of a slot's value.
-pub fn value_address(max_depth: u32, segment: u32, slot: u32) -> usize {
+pub(crate) fn value_address(max_depth: u32, segment: u32, slot: u32) -> usize {
     2 * (power(max_depth) as usize) + SEGMENT_WORDS * (segment as usize) + 2 * (slot as usize) + 1
 }

@@ -26,7 +26,7 @@ pub struct Block {
 }
 
 // The indices of a block of this local depth, 1 where the local depth is more than the depth.
-pub fn width_of(depth: u32, local_depth: u32) -> u32
+pub(crate) fn width_of(depth: u32, local_depth: u32) -> u32
     ensures { λ r. ⌜ (1 ≤ r) × (r ≤ 65536) ⌝ }
 {
     if depth < local_depth {
@@ -36,7 +36,7 @@ pub fn width_of(depth: u32, local_depth: u32) -> u32
 }
 
 // The block that the entry at an index belongs to.
-pub fn block_at(words: &Cells, shape: Shape, index: u32) -> Block {
+pub(crate) fn block_at(words: &Cells, shape: Shape, index: u32) -> Block {
     let entry = entry_at(words, shape.depth, index);
     let width = width_of(shape.depth, local_depth_of(entry));
     Block {
@@ -48,7 +48,7 @@ pub fn block_at(words: &Cells, shape: Shape, index: u32) -> Block {
 }
 
 // Whether an entry's depth and segment are in range.
-pub fn is_in_range(shape: Shape, entry: u64) -> bool {
+pub(crate) fn is_in_range(shape: Shape, entry: u64) -> bool {
     if shape.depth < local_depth_of(entry) {
         return false;
     }
@@ -88,7 +88,7 @@ fn visit(words: &Cells, shape: Shape, marks: &mut Cells, index: u32) -> u32
 }
 
 // Marks every block, and answers done, or broken at a leader that is not sound.
-pub fn mark_blocks(words: &Cells, shape: Shape, marks: &mut Cells) -> u32
+pub(crate) fn mark_blocks(words: &Cells, shape: Shape, marks: &mut Cells) -> u32
     ensures { λ r. ⌜ (r ≤ 11) ⌝ }
 {
     let count = power(shape.depth);
@@ -102,7 +102,7 @@ pub fn mark_blocks(words: &Cells, shape: Shape, marks: &mut Cells) -> u32
 }
 
 // The index that leads the block of an index, by its mark.
-pub fn leader_of(marks: &Cells, index: u32) -> u32 {
+pub(crate) fn leader_of(marks: &Cells, index: u32) -> u32 {
     let mark = word_at(marks, index as usize);
     if mark == 0 {
         return 0;
@@ -123,7 +123,7 @@ fn is_equal_throughout(words: &Cells, shape: Shape, marks: &Cells) -> bool {
 }
 
 // The walk's verdict: done, broken or unmended.
-pub fn verdict_of(words: &Cells, shape: Shape) -> u32
+pub(crate) fn verdict_of(words: &Cells, shape: Shape) -> u32
     ensures { λ r. ⌜ r ≤ 11 ⌝ }
 {
     let mut marks = [0u64; CELLS];

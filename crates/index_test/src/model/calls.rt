@@ -35,7 +35,7 @@ ghost use Prim.Native.Nat.{_≤_};
 
 // What a put or a remove tests before anything else, in document 01's order; done if nothing is in
 // the way.
-pub fn tests_of_change(words: &Cells, length: usize, key: u64) -> u32
+pub(crate) fn tests_of_change(words: &Cells, length: usize, key: u64) -> u32
     ensures { λ r. ⌜ r ≤ 11 ⌝ }
 {
     let shape = shape_of(words, length);
@@ -88,7 +88,7 @@ fn plan_format(
 }
 
 // Format: an empty index.
-pub fn format(
+pub(crate) fn format(
     words: &mut Cells,
     length: usize,
     max_depth: u64,
@@ -116,7 +116,7 @@ fn got(reply: u32, value: u64) -> Outcome
 }
 
 // Get: the value of a key. It goes by the key's own entry alone.
-pub fn get(words: &Cells, length: usize, key: u64) -> Outcome
+pub(crate) fn get(words: &Cells, length: usize, key: u64) -> Outcome
     ensures { λ r. ⌜ (r .reply ≤ 11) × (r .stores ≤ 0) ⌝ }
 {
     let shape = shape_of(words, length);
@@ -167,7 +167,7 @@ fn plan_remove(copy: &mut Cells, notes: &mut Notes, length: usize, key: u64) -> 
 }
 
 // Remove: a key and its value away.
-pub fn remove(words: &mut Cells, length: usize, key: u64, allowance: u32) -> Outcome
+pub(crate) fn remove(words: &mut Cells, length: usize, key: u64, allowance: u32) -> Outcome
     ensures { λ r. ⌜ (r .reply ≤ 11) × (r .stores ≤ allowance) ⌝ }
 {
     let mut copy = *words;

@@ -119,7 +119,7 @@ fn list_tidy(words: &Cells, shape: Shape, list: &mut Cells, room: usize) -> Outc
 
 // List: every live record, key then value, into a list array of `room`
 // words; the words behind them stay.
-pub fn list(words: &Cells, length: usize, list: &mut Cells, room: usize) -> Outcome
+pub(crate) fn list(words: &Cells, length: usize, list: &mut Cells, room: usize) -> Outcome
     ensures { λ r. ⌜ (r .reply ≤ 11) × (r .stores ≤ 0) ⌝ }
 {
     let shape = shape_of(words, length);

@@ -62,7 +62,7 @@ fn plan_mend(copy: &mut Cells, notes: &mut Notes, length: usize) -> Plan
 }
 
 // Mend: each entry its leader's word.
-pub fn mend(words: &mut Cells, length: usize, allowance: u32) -> Outcome
+pub(crate) fn mend(words: &mut Cells, length: usize, allowance: u32) -> Outcome
     ensures { λ r. ⌜ (r .reply ≤ 11) × (r .stores ≤ allowance) ⌝ }
 {
     let mut copy = *words;

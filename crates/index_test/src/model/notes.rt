@@ -19,7 +19,7 @@ pub struct Plan {
 }
 
 // A plan with no store.
-pub fn plan_without(reply: u32) -> Plan
+pub(crate) fn plan_without(reply: u32) -> Plan
     requires { ⌜ reply ≤ 11 ⌝ }
     ensures { λ r. ⌜ r .reply ≤ 11 ⌝ }
 {
@@ -42,7 +42,7 @@ fn note_at(notes: &Notes, at: usize) -> u64 {
 }
 
 // Makes a store on the copy, notes it behind the `due` before it, and answers how many are due now.
-pub fn note(copy: &mut Cells, notes: &mut Notes, due: u32, at: usize, value: u64) -> u32 {
+pub(crate) fn note(copy: &mut Cells, notes: &mut Notes, due: u32, at: usize, value: u64) -> u32 {
     set_word(copy, at, value);
     set_note(notes, 2 * (due as usize), at as u64);
     set_note(notes, 2 * (due as usize) + 1, value);
@@ -62,7 +62,7 @@ fn make_stores(words: &mut Cells, notes: &Notes, count: u32) {
 }
 
 // Carries a plan out on the array under an allowance.
-pub fn carry_out(words: &mut Cells, notes: &Notes, plan: Plan, allowance: u32) -> Outcome
+pub(crate) fn carry_out(words: &mut Cells, notes: &Notes, plan: Plan, allowance: u32) -> Outcome
     requires { ⌜ plan .reply ≤ 11 ⌝ }
     ensures { λ r. ⌜ (r .reply ≤ 11) × (r .stores ≤ allowance) ⌝ }
 {

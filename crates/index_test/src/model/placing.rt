@@ -13,7 +13,7 @@ const WINDOW_SLOTS: u32 = 16;
 pub const NO_SLOT: u32 = 64;
 
 // The first slot of the key's window that holds the key, or no slot.
-pub fn find_key(words: &Cells, max_depth: u32, segment: u32, key: u64) -> u32 {
+pub(crate) fn find_key(words: &Cells, max_depth: u32, segment: u32, key: u64) -> u32 {
     for number in 0..WINDOW_SLOTS {
         let slot = window_slot(key, number);
         if word_at(words, key_address(max_depth, segment, slot)) == key {
@@ -24,7 +24,7 @@ pub fn find_key(words: &Cells, max_depth: u32, segment: u32, key: u64) -> u32 {
 }
 
 // The first slot of the key's window that is empty or stale in the block, or no slot.
-pub fn find_room(words: &Cells, max_depth: u32, depth: u32, block: Block, key: u64) -> u32 {
+pub(crate) fn find_room(words: &Cells, max_depth: u32, depth: u32, block: Block, key: u64) -> u32 {
     for number in 0..WINDOW_SLOTS {
         let slot = window_slot(key, number);
         let held = word_at(words, key_address(max_depth, block.segment, slot));

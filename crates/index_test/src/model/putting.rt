@@ -45,11 +45,11 @@ fn plan_split(
     due: u32,
 ) -> u32 {
     if block.local_depth < shape.depth {
-        let copied = copy_slots(copy, notes, shape, block, new_segment, due);
+        let copied = copy_slots(copy, notes, due, shape, block, new_segment);
         return halve(copy, notes, shape.depth, block, new_segment, copied);
     }
     let doubled = double(copy, notes, shape, due);
-    let copied = copy_slots(copy, notes, shape, block, new_segment, doubled);
+    let copied = copy_slots(copy, notes, doubled, shape, block, new_segment);
     let wider = Block {
         segment: block.segment,
         local_depth: block.local_depth,
@@ -150,7 +150,7 @@ fn plan_put(copy: &mut Cells, notes: &mut Notes, length: usize, key: u64, value:
 }
 
 // Put: a key with its value.
-pub fn put(words: &mut Cells, length: usize, key: u64, value: u64, allowance: u32) -> Outcome
+pub(crate) fn put(words: &mut Cells, length: usize, key: u64, value: u64, allowance: u32) -> Outcome
     ensures { λ r. ⌜ (r .reply ≤ 11) × (r .stores ≤ allowance) ⌝ }
 {
     let mut copy = *words;

@@ -11,13 +11,13 @@ const BUCKET_SLOTS: u32 = 4;
 const SLOTS: u32 = 64;
 
 // Route bit `number` of a key, the first being 0: bit 4 of the key and those above.
-pub fn route_bit(key: u64, number: u32) -> u64 {
+pub(crate) fn route_bit(key: u64, number: u32) -> u64 {
     key / BUCKETS / power(number) as u64 % 2
 }
 
 // The key's index in the directory of this depth: the weights of its route bits that are 1, the first
 // bit being the heaviest.
-pub fn index_at(key: u64, depth: u32) -> u32 {
+pub(crate) fn index_at(key: u64, depth: u32) -> u32 {
     let mut index: u32 = 0;
     for number in 0..depth {
         let weight = power(depth - 1 - number);
@@ -30,7 +30,7 @@ pub fn index_at(key: u64, depth: u32) -> u32 {
 
 // Whether a key is live in a block of the directory of this depth: it is not 0, and its index lies in
 // the block.
-pub fn is_live(key: u64, block: Block, depth: u32) -> bool {
+pub(crate) fn is_live(key: u64, block: Block, depth: u32) -> bool {
     if key == 0 {
         return false;
     }
@@ -43,7 +43,7 @@ pub fn is_live(key: u64, block: Block, depth: u32) -> bool {
 
 // Slot `number` of a key's window, the first being 0. The slots of four buckets on, bucket 0
 // following 15, are sixteen slots on, slot 0 following 63.
-pub fn window_slot(key: u64, number: u32) -> u32 {
+pub(crate) fn window_slot(key: u64, number: u32) -> u32 {
     let first = (key % BUCKETS) as u32 * BUCKET_SLOTS;
     (first + number % SLOTS) % SLOTS
 }

@@ -46,14 +46,14 @@ fn first_unmarked(named: &Cells, segments: u32) -> u32 {
 }
 
 // The smallest segment number that no entry names.
-pub fn free_number(words: &Cells, shape: Shape) -> u32 {
+pub(crate) fn free_number(words: &Cells, shape: Shape) -> u32 {
     let mut named = [0u64; CELLS];
     mark_named(words, shape.depth, &mut named);
     first_unmarked(&named, shape.segments)
 }
 
 // Doubles the directory (split, step 2), and answers the stores due.
-pub fn double(copy: &mut Cells, notes: &mut Notes, shape: Shape, due: u32) -> u32 {
+pub(crate) fn double(copy: &mut Cells, notes: &mut Notes, shape: Shape, due: u32) -> u32 {
     let old_count = power(shape.depth);
     let mut now_due = due;
     for index in 0..2 * old_count {
@@ -91,13 +91,13 @@ fn copy_slot(
 }
 
 // The copy step over all slots.
-pub fn copy_slots(
+pub(crate) fn copy_slots(
     copy: &mut Cells,
     notes: &mut Notes,
+    due: u32,
     shape: Shape,
     block: Block,
     new_segment: u32,
-    due: u32,
 ) -> u32 {
     let mut now_due = due;
     for slot in 0..SLOTS {
@@ -117,7 +117,7 @@ fn halved_entry(block: Block, new_segment: u32, offset: u32) -> u64 {
 }
 
 // The entries of a block, from right to left (split, step 4).
-pub fn halve(
+pub(crate) fn halve(
     copy: &mut Cells,
     notes: &mut Notes,
     depth: u32,

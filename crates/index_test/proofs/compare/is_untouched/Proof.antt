@@ -1,12 +1,7 @@
 use borrow.Author.Needs.{needs}
-use native.Mathlib.Omega.{arith}
-use mathlib.Core.Path.{_≡_, refl, sym, ap, _∙_}
-use Prim.Native.Nat.{ℕ, _+_, _-_, _*_, _/_, _%_, _≤_, _<_}
-use lib.ListN.{length, getD, set, take, drop, length-set}
+use Prim.Native.Nat.{_-_, _≤_}
 use Rattle.index_test.proofs.compare.is_untouched.Statement.{statement}
 use Rattle.index_test.proofs.compare.is_untouched.Tie as tie
-use Rattle.index_test.proofs.compare.is_untouched.Reads as reads
-use Rattle.index_test.proofs.compare.is_untouched.Lts as lts
 
 abbrev Inv-loop : tie.InvT-loop
 Inv-loop list from i₀ i = 0 ≤ i
@@ -14,35 +9,27 @@ Inv-loop list from i₀ i = 0 ≤ i
 abbrev μ-loop : tie.MeasureT-loop
 μ-loop list from i₀ i = 10000 - i
 
--- src/compare.rt:282:5
 loop-holds : tie.Need-loop-holds Inv-loop μ-loop
 loop-holds c = search needs
 
--- src/compare.rt:283:12
 mul-if1 : tie.Need-mul-if1 Inv-loop μ-loop
 mul-if1 c = search needs
 
--- src/compare.rt:283:12
 element-copy-out-if1 : tie.Need-element-copy-out-if1 Inv-loop μ-loop
 element-copy-out-if1 c = search needs
 
--- src/compare.rt:284:13
 returns : tie.Need-returns Inv-loop μ-loop
 returns c = search needs
 
--- src/compare.rt:282:9
 add-i : tie.Need-add-i Inv-loop μ-loop
 add-i c = search needs
 
--- src/compare.rt:282:5
 loop-less : tie.Need-loop-less Inv-loop μ-loop
 loop-less c = search needs
 
--- src/compare.rt:282:5
 loop-again : tie.Need-loop-again Inv-loop μ-loop
 loop-again c = search needs
 
--- src/compare.rt:281:1
 returns-2 : tie.Need-returns-2 Inv-loop μ-loop
 returns-2 c = search needs
 

@@ -1,41 +1,35 @@
 use borrow.Author.Needs.{needs}
-use native.Mathlib.Omega.{arith}
-use mathlib.Core.Path.{_≡_, refl, sym, ap, _∙_}
-use Prim.Native.Nat.{ℕ, _+_, _-_, _*_, _/_, _%_, _≤_, _<_}
-use lib.ListN.{length, getD, set, take, drop, length-set}
+use Prim.Native.Nat.{_-_, _≤_}
 use Rattle.index_test.proofs.runs.cut_everywhere.Statement.{statement}
 use Rattle.index_test.proofs.runs.cut_everywhere.Tie as tie
-use Rattle.index_test.proofs.runs.cut_everywhere.Reads as reads
-use Rattle.index_test.proofs.runs.cut_everywhere.Lts as lts
-use Rattle.index_test.proofs.runs.cut_once.Reads as cut-once-reads
 
 abbrev Inv-loop : tie.InvT-loop
-Inv-loop words₀ twin₀ saved table tally₀ key value stores allowance₀ words twin tally allowance = 0 ≤ allowance
+Inv-loop words₀ twin₀ saved table tally₀ «record» stores allowance₀ words twin tally allowance = 0 ≤ allowance
 
 abbrev μ-loop : tie.MeasureT-loop
-μ-loop words₀ twin₀ saved table tally₀ key value stores allowance₀ words twin tally allowance = stores - allowance
+μ-loop words₀ twin₀ saved table tally₀ «record» stores allowance₀ words twin tally allowance = stores - allowance
 
--- src/runs.rt:148:5
 loop-holds : tie.Need-loop-holds Inv-loop μ-loop
 loop-holds c = search needs
 
--- src/runs.rt:149:9
 cut-once-requires : tie.Need-cut-once-requires Inv-loop μ-loop
 cut-once-requires c κs = search needs
 
--- src/runs.rt:148:9
 add-allowance : tie.Need-add-allowance Inv-loop μ-loop
 add-allowance c = search needs
 
--- src/runs.rt:148:5
 loop-less : tie.Need-loop-less Inv-loop μ-loop
 loop-less c = search needs
 
--- src/runs.rt:148:5
 loop-again : tie.Need-loop-again Inv-loop μ-loop
 loop-again c = search needs
 
--- src/runs.rt:138:1
+restore-requires : tie.Need-restore-requires Inv-loop μ-loop
+restore-requires c κs = search needs
+
+compare-put-requires : tie.Need-compare-put-requires Inv-loop μ-loop
+compare-put-requires c κs = search needs
+
 returns : tie.Need-returns Inv-loop μ-loop
 returns c = search needs
 
@@ -50,4 +44,6 @@ cut-everywhere-spec =
     add-allowance
     loop-less
     loop-again
+    restore-requires
+    compare-put-requires
     returns)

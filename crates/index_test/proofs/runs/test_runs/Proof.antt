@@ -1,13 +1,7 @@
 use borrow.Author.Needs.{needs}
-use native.Mathlib.Omega.{arith}
-use mathlib.Core.Path.{_≡_, refl, sym, ap, _∙_}
-use Prim.Native.Nat.{ℕ, _+_, _-_, _*_, _/_, _%_, _≤_, _<_}
-use lib.ListN.{length, getD, set, take, drop, length-set}
+use Prim.Native.Nat.{_-_, _≤_}
 use Rattle.index_test.proofs.runs.test_runs.Statement.{statement}
 use Rattle.index_test.proofs.runs.test_runs.Tie as tie
-use Rattle.index_test.proofs.runs.test_runs.Reads as reads
-use Rattle.index_test.proofs.runs.test_runs.Lts as lts
-use Rattle.index_test.proofs.runs.runs_at.Reads as runs-at-reads
 
 abbrev Inv-loop : tie.InvT-loop
 Inv-loop words₀ twin₀ saved₀ table₀ tally₀ max-depth₀ words twin saved table tally max-depth = 0 ≤ max-depth
@@ -15,27 +9,21 @@ Inv-loop words₀ twin₀ saved₀ table₀ tally₀ max-depth₀ words twin sav
 abbrev μ-loop : tie.MeasureT-loop
 μ-loop words₀ twin₀ saved₀ table₀ tally₀ max-depth₀ words twin saved table tally max-depth = 7 - max-depth
 
--- src/runs.rt:353:5
 loop-holds : tie.Need-loop-holds Inv-loop μ-loop
 loop-holds c = search needs
 
--- src/runs.rt:354:9
 runs-at-requires : tie.Need-runs-at-requires Inv-loop μ-loop
 runs-at-requires c κs = search needs
 
--- src/runs.rt:353:9
 add-max-depth : tie.Need-add-max-depth Inv-loop μ-loop
 add-max-depth c = search needs
 
--- src/runs.rt:353:5
 loop-less : tie.Need-loop-less Inv-loop μ-loop
 loop-less c = search needs
 
--- src/runs.rt:353:5
 loop-again : tie.Need-loop-again Inv-loop μ-loop
 loop-again c = search needs
 
--- src/runs.rt:346:1
 returns : tie.Need-returns Inv-loop μ-loop
 returns c = search needs
 

@@ -1,13 +1,7 @@
 use borrow.Author.Needs.{needs}
-use native.Mathlib.Omega.{arith}
-use mathlib.Core.Path.{_≡_, refl, sym, ap, _∙_}
-use Prim.Native.Nat.{ℕ, _+_, _-_, _*_, _/_, _%_, _≤_, _<_}
-use lib.ListN.{length, getD, set, take, drop, length-set}
+use Prim.Native.Nat.{_-_, _≤_}
 use Rattle.index_test.proofs.model.blocks.mark_block.Statement.{statement}
 use Rattle.index_test.proofs.model.blocks.mark_block.Tie as tie
-use Rattle.index_test.proofs.model.blocks.mark_block.Reads as reads
-use Rattle.index_test.proofs.model.blocks.mark_block.Lts as lts
-use Rattle.index_test.proofs.words.set_word.Reads as set-word-reads
 
 abbrev Inv-loop : tie.InvT-loop
 Inv-loop marks₀ leader width i₀ marks i = 0 ≤ i
@@ -15,39 +9,30 @@ Inv-loop marks₀ leader width i₀ marks i = 0 ≤ i
 abbrev μ-loop : tie.MeasureT-loop
 μ-loop marks₀ leader width i₀ marks i = width - i
 
--- src/model/blocks.rt:69:5
 loop-holds : tie.Need-loop-holds Inv-loop μ-loop
 loop-holds c = search needs
 
--- src/model/blocks.rt:70:43
 cast-set-word : tie.Need-cast-set-word Inv-loop μ-loop
 cast-set-word c = search needs
 
--- src/model/blocks.rt:70:25
 add-set-word : tie.Need-add-set-word Inv-loop μ-loop
 add-set-word c = search needs
 
--- src/model/blocks.rt:70:55
 add-set-word-2 : tie.Need-add-set-word-2 Inv-loop μ-loop
 add-set-word-2 c = search needs
 
--- src/model/blocks.rt:70:9
 set-word-requires : tie.Need-set-word-requires Inv-loop μ-loop
 set-word-requires c κs = search needs
 
--- src/model/blocks.rt:69:9
 add-i : tie.Need-add-i Inv-loop μ-loop
 add-i c = search needs
 
--- src/model/blocks.rt:69:5
 loop-less : tie.Need-loop-less Inv-loop μ-loop
 loop-less c = search needs
 
--- src/model/blocks.rt:69:5
 loop-again : tie.Need-loop-again Inv-loop μ-loop
 loop-again c = search needs
 
--- src/model/blocks.rt:68:1
 returns : tie.Need-returns Inv-loop μ-loop
 returns c = search needs
 
