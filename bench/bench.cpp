@@ -9,6 +9,8 @@ namespace {
 
 // The pages of a cabinet in use, and those that it takes before its first refusal (bench/counts).
 constexpr word in_use = 70000;
+// The calls between two looks at the clock, where it is stopped for others.
+constexpr word batch = 2048;
 constexpr word until_refusal(bool running) { return running ? 162815 : 78206; }
 
 word place(word page) { return 3 * page; }
@@ -72,16 +74,29 @@ void overwrite(benchmark::State &state) {
     }
 }
 
-// A remove, and the put that takes its slot again.
+// Removes, each of a page that is there; the pages are put back beside the clock.
 template <class Peer, bool running>
-void remove_put(benchmark::State &state) {
+void remove(benchmark::State &state) {
     Peer &peer = filled<Peer, running>();
-    Words some = sample(keys(running, in_use));
-    std::size_t i = 0;
-    for (auto _ : state) {
-        word key = some[i++ % some.size()];
-        peer.remove(key);
-        benchmark::DoNotOptimize(peer.put(key, place(key)));
+    Words pages = keys(running, batch);
+    while (state.KeepRunningBatch(batch)) {
+        for (word key : pages) peer.remove(key);
+        state.PauseTiming();
+        fill(peer, pages);
+        state.ResumeTiming();
+    }
+}
+
+// Puts of pages that are not there, into slots that are free; they are removed beside the clock.
+template <class Peer, bool running>
+void put_new(benchmark::State &state) {
+    Peer &peer = filled<Peer, running>();
+    Words pages = keys(running, batch);
+    while (state.KeepRunningBatch(batch)) {
+        state.PauseTiming();
+        for (word key : pages) peer.remove(key);
+        state.ResumeTiming();
+        fill(peer, pages);
     }
 }
 
@@ -215,8 +230,10 @@ void add_common() {
     add<Peer>("get miss, running", get_miss<Peer, true>);
     add<Peer>("overwrite, running", overwrite<Peer, true>);
     add<Peer>("overwrite, random", overwrite<Peer, false>);
-    add<Peer>("remove and put, running", remove_put<Peer, true>);
-    add<Peer>("remove and put, random", remove_put<Peer, false>);
+    add<Peer>("put of a new page, running", put_new<Peer, true>);
+    add<Peer>("put of a new page, random", put_new<Peer, false>);
+    add<Peer>("remove, running", remove<Peer, true>);
+    add<Peer>("remove, random", remove<Peer, false>);
     add<Peer>("fill, running", fill_all<Peer, true>)->Iterations(1)->Unit(benchmark::kMillisecond);
     add<Peer>("fill, random", fill_all<Peer, false>)->Iterations(1)->Unit(benchmark::kMillisecond);
 }

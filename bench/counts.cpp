@@ -2,6 +2,9 @@
 // segments are when they are split.
 #include "peers.hpp"
 
+#include <malloc.h>
+#include <sys/stat.h>
+
 #include <random>
 
 namespace {
@@ -76,9 +79,36 @@ void fill(const char *name, bool running) {
                 double(hit) / pages, name, double(miss) / pages);
 }
 
+// The memory that a peer takes for 70,000 pages: on the heap, or in its files.
+template <class Peer>
+void memory() {
+    constexpr word pages = 70000;
+    auto heap = [] { return mallinfo2().uordblks + mallinfo2().hblkhd; };
+    std::size_t before = heap();
+    auto peer = std::make_unique<Peer>();
+    for (word key = 1; key <= pages; key++) peer->put(key, 3 * key);
+    std::size_t taken = heap() - before;
+    for (const auto &file : std::filesystem::directory_iterator(std::getenv("BENCH_SCRATCH"))) {
+        struct stat found;
+        must(stat(file.path().c_str(), &found) == 0, "stat");
+        taken += 512 * std::size_t(found.st_blocks);
+    }
+    std::printf("memory %s %.1f\n", Peer::name, double(taken) / pages);
+    peer.reset();
+    for (const auto &file : std::filesystem::directory_iterator(std::getenv("BENCH_SCRATCH"))) std::filesystem::remove(file);
+}
+
 }  // namespace
 
+// BENCH_SCRATCH names an empty folder for the peers' files.
 int main() {
+    memory<Ours>();
+    memory<Abseil>();
+    memory<Standard>();
+    memory<Linear>();
+    memory<Lmdb>();
+    memory<Tkrzw>();
+    memory<Sqlite>();
     fill("running", true);
     fill("random", false);
     Ours worst(12, 13);

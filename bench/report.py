@@ -15,7 +15,7 @@ HERE = pathlib.Path(__file__).parent
 PEERS = ["twin", "flat_hash_map", "unordered_map", "linear", "lmdb", "tkrzw", "sqlite"]
 WORK = [
     "get hit, running", "get hit, random", "get miss, running", "overwrite, running", "overwrite, random",
-    "remove and put, running", "remove and put, random", "fill, running", "fill, random", "list", "mend",
+    "put of a new page, running", "put of a new page, random", "remove, running", "remove, random", "fill, running", "fill, random", "list", "mend",
     "put with a split", "worst put",
 ]
 
@@ -47,6 +47,11 @@ def ratio(ours, theirs):
     return middle, pairs[0], pairs[-1]
 
 
+def plain(number):
+    """Two or three figures without an exponent."""
+    return f"{number:.0f}" if number >= 100 else f"{number:.2g}" if number < 0.1 else f"{number:.2f}"
+
+
 def ratio_table(times):
     rows = ["| Work | ours | " + " | ".join(PEERS) + " |", "|---|---|" + "---|" * len(PEERS)]
     for what in WORK:
@@ -58,7 +63,7 @@ def ratio_table(times):
                 cells.append("")
                 continue
             middle, least, most = ratio(ours, theirs)
-            cells.append(f"{middle:.3g} ({least:.2g} to {most:.2g})")
+            cells.append(f"{plain(middle)} ({plain(least)} to {plain(most)})")
         rows.append(f"| {what} | {shown(statistics.median(ours))} | " + " | ".join(cells) + " |")
     return "\n".join(rows)
 
@@ -88,6 +93,12 @@ def count_table(counts):
     ]
     rows = ["| Count | running numbers | random keys |", "|---|---|---|"]
     rows += [f"| {said} | {counts['running', name]} | {counts['random', name]} |" for name, said in names]
+    return "\n".join(rows)
+
+
+def memory_table(counts):
+    rows = ["| Peer | bytes per page |", "|---|---|"]
+    rows += [f"| {peer} | {counts['memory', peer]} |" for peer in ["ours"] + PEERS[1:]]
     return "\n".join(rows)
 
 
@@ -148,7 +159,7 @@ def main(folder, repetitions):
     for mark, value in {
         "@command@": "bench/run", "@repetitions@": str(repetitions), "@processors@": str(machine["num_cpus"]),
         "@mhz@": str(machine["mhz_per_cpu"]), "@ratios@": ratio_table(times), "@times@": time_table(times), "@counts@": count_table(counts),
-        "@instructions@": instruction_table(folder / "instructions.txt"), "@desk@": desk_table(root), "@worst@": counts["worst", "stores"],
+        "@instructions@": instruction_table(folder / "instructions.txt"), "@desk@": desk_table(root), "@worst@": counts["worst", "stores"], "@memory@": memory_table(counts),
     }.items():
         text = text.replace(mark, value)
     (HERE / "RESULTS.md").write_text(text)
