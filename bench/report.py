@@ -103,13 +103,14 @@ def memory_table(counts):
 
 
 def instruction_table(path):
+    said = {"get": "get, hit", "overwrite": "overwrite", "new": "put of a new page", "remove": "remove"}
     calls = collections.defaultdict(dict)
     for line in path.read_text().splitlines():
-        call, name, total = line.split()
-        calls[call]["twin" if name.startswith("Twin") else "ours"] = int(total) / 1000
+        call, peer, total = line.split()
+        calls[call][peer] = int(total) / 1000
     rows = ["| Call | ours | twin | ratio |", "|---|---|---|---|"]
     for call, by in calls.items():
-        rows.append(f"| {call} | {by['ours']:.1f} | {by['twin']:.1f} | {by['ours'] / by['twin']:.2f} |")
+        rows.append(f"| {said[call]} | {by['ours']:.1f} | {by['twin']:.1f} | {by['ours'] / by['twin']:.2f} |")
     return "\n".join(rows)
 
 
