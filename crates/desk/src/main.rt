@@ -3,6 +3,7 @@
 ghost use Prim.Native.Nat.{_≤_, _<_};
 ghost use lib.ListN.{length};
 ghost use Rattle.desk_text.specs.Output.{lineRoom};
+use desk_run::MOST_BYTES;
 use libc::STDIN_FILENO;
 use libc::STDOUT_FILENO;
 
@@ -11,7 +12,7 @@ const WORDS: usize = 4160;
 const LIST_WORDS: usize = 512;
 
 // One byte more than a script may have: with it the script is known to be too long.
-const TEXT_BYTES: usize = 16385;
+const TEXT_BYTES: usize = MOST_BYTES + 1;
 
 // Runs the script from position `from` on as far as the output buffer has room, and writes what that
 // gives. Answers where to go on: at the script's end where standard output takes no more.

@@ -85,7 +85,8 @@ fn run_lines(
 
 // Runs the script from position `from` on until it ends or the buffer has no room for another line.
 // Where too many bytes are left, it runs nothing, and writes the line that says so. From the script's
-// end on there is nothing to run.
+// end on there is nothing to run. The list array is room for listings: what stands in it afterwards is
+// the program's choice, and no output depends on it.
 pub fn run(
     script: &[u8],
     from: usize,

@@ -3,3 +3,7 @@ pub mod line;
 pub mod number;
 pub mod output;
 pub mod script;
+
+const TAB: u8 = b'\t';
+
+const LINE_FEED: u8 = b'\n';

@@ -1,4 +1,5 @@
 // A line of a script: the call that it is, if it is one.
+use crate::TAB;
 use crate::number::Number;
 use crate::number::read_number;
 use bytes::scan::find;
@@ -6,8 +7,6 @@ use rules::Call;
 ghost use mathlib.Core.Path.{_≡_};
 ghost use mathlib.Core.List.{[], _∷_};
 ghost use Rattle.desk_text.specs.Line.{letterOf, callOf, callWith, lineSaid};
-
-const TAB: u8 = b'\t';
 
 // The first number that is no allowance.
 const ALLOWANCE_LIMIT: u64 = 4294967296;

@@ -1,4 +1,6 @@
 // The lines of output.
+use crate::LINE_FEED;
+use crate::TAB;
 use crate::number::write_decimal;
 use rules::Answer;
 use rules::Reply;
@@ -16,10 +18,6 @@ ghost use Rattle.desk_text.specs.Output.{replyText, headText, endText, a
 
 // The bytes of room for the longest line.
 pub const LINE_ROOM: usize = 48;
-
-const TAB: u8 = b'\t';
-
-const LINE_FEED: u8 = b'\n';
 
 // Writes one byte at position `at`, and answers the position behind it.
 pub(crate) fn write_byte(byte: u8, out: &mut [u8], at: usize) -> usize

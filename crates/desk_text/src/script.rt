@@ -1,8 +1,7 @@
 // A script: its lines, one after the other.
+use crate::LINE_FEED;
 use bytes::scan::find;
 ghost use Rattle.desk_text.specs.Script.{NextLine};
-
-const LINE_FEED: u8 = b'\n';
 
 // Where a line stands: from `start` to the byte before `end`.
 pub struct Span {
