@@ -20,6 +20,8 @@ const SMALL_WORDS: usize = 9856;
 
 const CABINET_WORDS: usize = 524288;
 
+type Cabinet = [u64; CABINET_WORDS];
+
 // More pages than the slots of 4,032 segments.
 const MOST_PAGES: u64 = 300000;
 
@@ -125,21 +127,21 @@ fn count_found(words: &[u64], pages: u64) -> u64 {
 }
 
 // The index of the cabinet's size.
-fn fill_cabinet() {
-    let mut words = [0u64; CABINET_WORDS];
-    index::format(&mut words, MAX_DEPTH, 4032, ALL_STORES);
-    let filled = fill(&mut words);
+fn fill_cabinet(words: &mut Cabinet) {
+    index::format(words, MAX_DEPTH, 4032, ALL_STORES);
+    let filled = fill(words);
     report(b"cabinet, pages: ", filled.pages);
     report(b"cabinet, stores: ", filled.stores);
     report(b"cabinet, reply to the next put: ", filled.reply);
     report(
         b"cabinet, pages found again: ",
-        count_found(&words, filled.pages),
+        count_found(words, filled.pages),
     );
 }
 
 // The put with the most stores, then the cabinet.
 fn main() {
     worst_put();
-    fill_cabinet();
+    let mut words = [0u64; CABINET_WORDS];
+    fill_cabinet(&mut words);
 }
