@@ -3,7 +3,6 @@
 use mathlib.Core.Path.{_≡_, ap, _∙_}
 use mathlib.Core.Bool.{not}
 use mathlib.Core.List.{List}
-use mathlib.Core.Option.{some}
 use Prim.Native.Nat.{ℕ, _+_, _-_, _*_, _≤_, _<_}
 use native.Mathlib.Nat.{zero-add}
 use native.Mathlib.Omega.{arith}
@@ -12,7 +11,7 @@ use lib.ListN.{length, take, drop, length-drop}
 use lib.Seq.{length-take-le, getD-take, getD-drop}
 use Rattle.stores.specs.Store.{word}
 use Rattle.stores.specs.Lists.{each}
-use Rattle.stores.proofs.Lists.{each-same, first-same, first-some}
+use Rattle.stores.proofs.Lists.{each-same, first-same}
 use Rattle.rules.specs.Layout.{keyAt, valueAt}
 use Rattle.rules.specs.Keys.{live, window}
 use Rattle.rules.specs.Slots.{hit, usable, firstUsable, choose}
@@ -61,8 +60,3 @@ module _ (a : List ℕ) (base : ℕ) (fits : base + 128 ≤ length a) where
   pub part-records : (L bits : ℕ) → each (liveRecord (segmentIn a base) 0 L bits) 64 ≡ each (liveRecord a base L bits) 64
   unfolding liveRecord
   part-records L bits = each-same _ _ 64 (λ j k. rw (part-key j k, part-value j k))
-
--- The slot of a hit is one of the segment's.
-pub hit-slot : (a : List ℕ) (base key j : ℕ) → hit a base key ≡ some j → j < 64
-unfolding hit
-hit-slot a base key j e = window-lt key j (first-some _ (window key) j e .0)

@@ -10,7 +10,7 @@ use Rattle.stores.specs.Store.{word}
 use Rattle.rules.specs.Replies.{saidBy, done}
 use Rattle.directory.proofs.Shapes.{bounds}
 use Rattle.directory.proofs.Answers.{header-valid, header-not-valid}
-use Rattle.index.proofs.Parts.{hit-slot}
+use Rattle.rules.proofs.Range.{hit-slot}
 use Rattle.index.proofs.Places.{key-index-lt, located, out-of-range, segment-at}
 use Rattle.index.proofs.Calls.{get-no-store, get-no-key, get-broken, get-absent, get-found}
 use Rattle.index.proofs.get.Statement.{statement}

@@ -9,7 +9,7 @@ use lib.ListN.{length}
 use Rattle.rules.specs.Replies.{saidBy}
 use Rattle.directory.proofs.Shapes.{bounds}
 use Rattle.index.proofs.Checks.{check-passed, check-refused, passed-range}
-use Rattle.index.proofs.Parts.{hit-slot}
+use Rattle.rules.proofs.Range.{hit-slot}
 use Rattle.index.proofs.Places.{key-index-lt, located, out-of-range, segment-at}
 use Rattle.index.proofs.Calls.{remove-refused, remove-absent, remove-done}
 use Rattle.index.proofs.remove.Statement.{statement}
