@@ -3,13 +3,11 @@
 ghost use Prim.Native.Nat.{_≤_, _<_};
 ghost use lib.ListN.{length};
 ghost use Rattle.desk_text.specs.Output.{lineRoom};
+use desk_run::LIST_WORDS;
 use desk_run::MOST_BYTES;
+use desk_run::WORDS;
 use libc::STDIN_FILENO;
 use libc::STDOUT_FILENO;
-
-const WORDS: usize = 4160;
-
-const LIST_WORDS: usize = 512;
 
 // One byte more than a script may have: with it the script is known to be too long.
 const TEXT_BYTES: usize = MOST_BYTES + 1;

@@ -15,6 +15,12 @@ ghost use Rattle.desk_run.specs.Progress.{LineRan, Advanced, LinesRan, S
 // The most bytes of a script.
 pub const MOST_BYTES: usize = 16384;
 
+// The words that a program of the desk owns, and those of the list array that it lends. A run takes
+// any.
+pub const WORDS: usize = 4160;
+
+pub const LIST_WORDS: usize = 512;
+
 // How far a run has come: the position in the script, and the bytes written to the output buffer.
 pub struct Progress {
     pub next: usize,

@@ -1,5 +1,7 @@
 // Runs scripts of the desk against stored outputs. The arguments are file names in pairs: a script,
 // and the output that it must give.
+use desk_run::LIST_WORDS;
+use desk_run::WORDS;
 use desk_text::output::LINE_ROOM;
 use libc::STDOUT_FILENO;
 use std::num::wrapping_add_u64;
@@ -8,10 +10,6 @@ ghost use lib.ListN.{length};
 ghost use Rattle.io.specs.Counts.{Counts};
 ghost use Rattle.desk_text.specs.Output.{lineRoom};
 ghost use Rattle.desk_test.specs.Step.{Stepped};
-
-const WORDS: usize = 4160;
-
-const LIST_WORDS: usize = 512;
 
 // A file that fills its buffer counts as not read.
 const SCRIPT_BYTES: usize = 32768;
