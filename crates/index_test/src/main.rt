@@ -1,47 +1,34 @@
 // The test program: the calls of `index` beside a separately written model, on known states, runs,
 // damaged arrays and the put with the most stores. It prints what it counted.
-mod compare;
-mod damage;
-mod front;
-mod generator;
 mod known;
-mod model;
 mod report;
-mod runs;
-mod table;
-mod tally;
-mod words;
-mod worst;
 
-use damage::test_damage;
+use index_compare::arrays::ARRAYS;
+use index_compare::arrays::Arrays;
+use index_compare::arrays::TALLY;
+use index_compare::tally::FAMILY;
+use index_damage::test_damage;
+use index_model::words::CELLS;
+use index_runs::runs::test_runs;
+use index_worst::test_worst;
 use known::test_known;
 use report::write_table;
-use runs::test_runs;
-use tally::TALLY_WORDS;
-use tally::Tally;
-use tally::begin_family;
-use words::CELLS;
-use worst::test_worst;
 
-// The families in order, on two arrays, one for the index and one for the model, and one saved.
-fn test_families(tally: &mut Tally) {
-    let mut words = [0u64; CELLS];
-    let mut twin = [0u64; CELLS];
-    let mut saved = [0u64; CELLS];
-    let mut table = [0u64; CELLS];
-    begin_family(tally, 0);
-    test_known(&mut words, &mut twin, tally);
-    begin_family(tally, 1);
-    test_runs(&mut words, &mut twin, &mut saved, &mut table, tally);
-    begin_family(tally, 2);
-    test_damage(&mut words, &mut twin, &mut saved, &mut table, tally);
-    begin_family(tally, 3);
-    test_worst(&mut words, &mut twin, &mut saved, tally);
+// The families in order. What is counted is counted for the family at work.
+fn test_families(arrays: &mut Arrays) {
+    arrays[TALLY][FAMILY] = 0;
+    test_known(arrays);
+    arrays[TALLY][FAMILY] = 1;
+    test_runs(arrays);
+    arrays[TALLY][FAMILY] = 2;
+    test_damage(arrays);
+    arrays[TALLY][FAMILY] = 3;
+    test_worst(arrays);
 }
 
 // All families, then the table.
 fn main() {
-    let mut tally = [0u64; TALLY_WORDS];
-    test_families(&mut tally);
-    write_table(&tally);
+    let mut arrays = [[0u64; CELLS]; ARRAYS];
+    test_families(&mut arrays);
+    write_table(&arrays[TALLY]);
 }

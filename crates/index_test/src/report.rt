@@ -1,14 +1,17 @@
 // The table on standard output. Every number in it was counted.
-use crate::tally::CALLS;
-use crate::tally::CASES;
-use crate::tally::CUT_CALLS;
-use crate::tally::DIFFERENCES;
-use crate::tally::FAMILIES;
-use crate::tally::LOOKUPS;
-use crate::tally::STORES;
-use crate::tally::Tally;
-use crate::tally::counted;
-use crate::tally::replies_counted;
+use index_compare::tally::CALLS;
+use index_compare::tally::CASES;
+use index_compare::tally::COLUMNS;
+use index_compare::tally::CUT_CALLS;
+use index_compare::tally::DIFFERENCES;
+use index_compare::tally::FAMILIES;
+use index_compare::tally::FIRST_COLUMN;
+use index_compare::tally::LOOKUPS;
+use index_compare::tally::REPLIES;
+use index_compare::tally::REPLIES_PER_CALL;
+use index_compare::tally::STORES;
+use index_model::words::Cells;
+use index_model::words::word_at;
 
 const STDOUT: i32 = 1;
 
@@ -80,38 +83,47 @@ fn write_name(name: &[u8; 14]) {
     io::write_all(STDOUT, name);
 }
 
+// Writes what was counted in a column of a family.
+fn write_column(tally: &Cells, family: usize, column: usize) {
+    write_number(word_at(
+        tally,
+        FIRST_COLUMN + family % FAMILIES * COLUMNS + column % COLUMNS,
+    ));
+}
+
 // Writes the line of a family.
-fn write_counts(tally: &Tally, family: usize) {
+fn write_counts(tally: &Cells, family: usize) {
     let name = FAMILY_NAMES[family % FAMILIES];
     write_name(&name);
-    write_number(counted(tally, family, CASES));
-    write_number(counted(tally, family, CALLS));
-    write_number(counted(tally, family, CUT_CALLS));
-    write_number(counted(tally, family, STORES));
-    write_number(counted(tally, family, LOOKUPS));
-    write_number(counted(tally, family, DIFFERENCES));
+    write_column(tally, family, CASES);
+    write_column(tally, family, CALLS);
+    write_column(tally, family, CUT_CALLS);
+    write_column(tally, family, STORES);
+    write_column(tally, family, LOOKUPS);
+    write_column(tally, family, DIFFERENCES);
     io::write_all(STDOUT, b"\n");
 }
 
 // Writes how often each call had a reply.
-fn write_replies(tally: &Tally, reply: u32) {
+fn write_replies(tally: &Cells, reply: u32) {
     let name = REPLY_NAMES[reply as usize % 12];
     write_name(&name);
     for call in 0..6 {
-        write_number(replies_counted(tally, call, reply));
+        let at = REPLIES + call * REPLIES_PER_CALL + reply as usize % REPLIES_PER_CALL;
+        write_number(word_at(tally, at));
     }
     io::write_all(STDOUT, b"\n");
 }
 
 // Writes a line for each family.
-fn write_families(tally: &Tally) {
+fn write_families(tally: &Cells) {
     for family in 0..FAMILIES {
         write_counts(tally, family);
     }
 }
 
 // Writes the whole table.
-pub(crate) fn write_table(tally: &Tally) {
+pub(crate) fn write_table(tally: &Cells) {
     io::write_all(
         STDOUT,
         b"family               cases       calls   cut calls      stores     lookups differences\n",

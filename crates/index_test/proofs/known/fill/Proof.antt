@@ -4,16 +4,16 @@ use Rattle.index_test.proofs.known.fill.Statement.{statement}
 use Rattle.index_test.proofs.known.fill.Tie as tie
 
 abbrev Inv-loop : tie.InvT-loop
-Inv-loop words₀ twin₀ tally₀ segments first step key₀ counter₀ words twin tally key counter = 0 ≤ counter
+Inv-loop arrays₀ segments first step key₀ counter₀ arrays key counter = 0 ≤ counter
 
 abbrev μ-loop : tie.MeasureT-loop
-μ-loop words₀ twin₀ tally₀ segments first step key₀ counter₀ words twin tally key counter = 16 - counter
+μ-loop arrays₀ segments first step key₀ counter₀ arrays key counter = 16 - counter
 
-shape-from-requires : tie.Need-shape-from-requires Inv-loop μ-loop
-shape-from-requires c κs = search needs
+mul-begin : tie.Need-mul-begin Inv-loop μ-loop
+mul-begin c = search needs
 
-words-of-requires : tie.Need-words-of-requires Inv-loop μ-loop
-words-of-requires c κs = search needs
+add-begin : tie.Need-add-begin Inv-loop μ-loop
+add-begin c = search needs
 
 begin-requires : tie.Need-begin-requires Inv-loop μ-loop
 begin-requires c κs = search needs
@@ -48,8 +48,8 @@ fill-spec =
     (tie.spec
     Inv-loop
     μ-loop
-    shape-from-requires
-    words-of-requires
+    mul-begin
+    add-begin
     begin-requires
     compare-format-requires
     loop-holds

@@ -4,10 +4,10 @@ use Rattle.index_test.proofs.known.is_formatted.Statement.{statement}
 use Rattle.index_test.proofs.known.is_formatted.Tie as tie
 
 abbrev Inv-loop : tie.InvT-loop
-Inv-loop words first i₀ i-end i = 0 ≤ i
+Inv-loop words first i₀ i = 0 ≤ i
 
 abbrev μ-loop : tie.MeasureT-loop
-μ-loop words first i₀ i-end i = i-end - i
+μ-loop words first i₀ i = 532480 - i
 
 loop-holds : tie.Need-loop-holds Inv-loop μ-loop
 loop-holds c = search needs
@@ -15,8 +15,8 @@ loop-holds c = search needs
 mul-if2 : tie.Need-mul-if2 Inv-loop μ-loop
 mul-if2 c = search needs
 
-shared-slice-read-if2 : tie.Need-shared-slice-read-if2 Inv-loop μ-loop
-shared-slice-read-if2 c = search needs
+element-copy-out-if2 : tie.Need-element-copy-out-if2 Inv-loop μ-loop
+element-copy-out-if2 c = search needs
 
 returns : tie.Need-returns Inv-loop μ-loop
 returns c = search needs
@@ -41,7 +41,7 @@ is-formatted-spec =
     μ-loop
     loop-holds
     mul-if2
-    shared-slice-read-if2
+    element-copy-out-if2
     returns
     add-i
     loop-less

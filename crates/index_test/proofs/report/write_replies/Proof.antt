@@ -4,10 +4,10 @@ use Rattle.index_test.proofs.report.write_replies.Statement.{statement}
 use Rattle.index_test.proofs.report.write_replies.Tie as tie
 
 abbrev Inv-loop : tie.InvT-loop
-Inv-loop tally reply call₀ t5 call = 0 ≤ call
+Inv-loop tally reply call₀ t6 call = 0 ≤ call
 
 abbrev μ-loop : tie.MeasureT-loop
-μ-loop tally reply call₀ t5 call = 6 - call
+μ-loop tally reply call₀ t6 call = 6 - call
 
 mul-name : tie.Need-mul-name Inv-loop μ-loop
 mul-name c = search needs
@@ -21,8 +21,17 @@ write-name-requires c κs = search needs
 loop-holds : tie.Need-loop-holds Inv-loop μ-loop
 loop-holds c = search needs
 
-replies-counted-requires : tie.Need-replies-counted-requires Inv-loop μ-loop
-replies-counted-requires c κs = search needs
+mul-at : tie.Need-mul-at Inv-loop μ-loop
+mul-at c = search needs
+
+add-at : tie.Need-add-at Inv-loop μ-loop
+add-at c = search needs
+
+add-at-2 : tie.Need-add-at-2 Inv-loop μ-loop
+add-at-2 c = search needs
+
+word-at-requires : tie.Need-word-at-requires Inv-loop μ-loop
+word-at-requires c κs = search needs
 
 write-number-requires : tie.Need-write-number-requires Inv-loop μ-loop
 write-number-requires c κs = search needs
@@ -55,7 +64,10 @@ write-replies-spec =
     array-copy-out-name
     write-name-requires
     loop-holds
-    replies-counted-requires
+    mul-at
+    add-at
+    add-at-2
+    word-at-requires
     write-number-requires
     add-call
     loop-less

@@ -1,0 +1,42 @@
+use Prim.Native.Nat.{_-_}
+use borrow.Author.Needs.{needs}
+use Rattle.index_compare.proofs.Counts.{apart-trans, index-apart, model-apart}
+use Rattle.index_compare.proofs.compare.compare_format.Statement.{statement}
+use Rattle.index_compare.proofs.compare.compare_format.Tie as tie
+
+lent-requires : tie.Need-lent-requires
+lent-requires c κs = search needs
+
+index-1-format : tie.Need-index-1-format
+index-1-format c = search needs
+
+format-requires : tie.Need-format-requires
+format-requires c κs = search needs
+
+index-1-format-2 : tie.Need-index-1-format-2
+index-1-format-2 c = search needs
+
+format-requires-2 : tie.Need-format-requires-2
+format-requires-2 c κs = search needs
+
+is-same-requires : tie.Need-is-same-requires
+is-same-requires c κs = search needs
+
+judge-requires : tie.Need-judge-requires
+judge-requires c κs = search needs
+
+returns : tie.Need-returns
+returns c = (c .judge .ensures .0, apart-trans (index-apart _ _) (apart-trans (model-apart _ _) (c .judge .ensures .1)))
+
+pub compare-format-spec : {M : Type 1} → statement M
+compare-format-spec =
+    tie.close
+    (tie.spec
+    lent-requires
+    index-1-format
+    format-requires
+    index-1-format-2
+    format-requires-2
+    is-same-requires
+    judge-requires
+    returns)

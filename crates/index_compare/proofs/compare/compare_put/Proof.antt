@@ -1,0 +1,42 @@
+use Prim.Native.Nat.{_-_}
+use borrow.Author.Needs.{needs}
+use Rattle.index_compare.proofs.Counts.{apart-trans, index-apart, model-apart}
+use Rattle.index_compare.proofs.compare.compare_put.Statement.{statement}
+use Rattle.index_compare.proofs.compare.compare_put.Tie as tie
+
+lent-requires : tie.Need-lent-requires
+lent-requires c κs = search needs
+
+index-1-put : tie.Need-index-1-put
+index-1-put c = search needs
+
+put-requires : tie.Need-put-requires
+put-requires c κs = search needs
+
+index-1-put-2 : tie.Need-index-1-put-2
+index-1-put-2 c = search needs
+
+put-requires-2 : tie.Need-put-requires-2
+put-requires-2 c κs = search needs
+
+is-same-requires : tie.Need-is-same-requires
+is-same-requires c κs = search needs
+
+judge-requires : tie.Need-judge-requires
+judge-requires c κs = search needs
+
+returns : tie.Need-returns
+returns c = (c .judge .ensures .0, apart-trans (index-apart _ _) (apart-trans (model-apart _ _) (c .judge .ensures .1)))
+
+pub compare-put-spec : {M : Type 1} → statement M
+compare-put-spec =
+    tie.close
+    (tie.spec
+    lent-requires
+    index-1-put
+    put-requires
+    index-1-put-2
+    put-requires-2
+    is-same-requires
+    judge-requires
+    returns)

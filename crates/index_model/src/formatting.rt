@@ -1,0 +1,39 @@
+// The plan of a format.
+use crate::BAD_SHAPE;
+use crate::DONE;
+use crate::TOO_SHORT;
+use crate::array::SLOTS;
+use crate::array::Shape;
+use crate::array::first_word;
+use crate::array::key_address;
+use crate::array::shape_from;
+use crate::array::words_of;
+use crate::draft::Draft;
+use crate::draft::note;
+ghost use Prim.Native.Nat.{_≤_};
+
+// The stores of a format, in document 01's order: word 0 and the entry of depth 0 become 0, the keys of
+// segment 0 too, and then word 0 is made sound.
+fn note_empty(draft: &mut Draft, shape: Shape) {
+    note(draft, 0, 0);
+    note(draft, 1, 0);
+    for slot in 0..SLOTS {
+        note(draft, key_address(shape.max_depth, 0, slot), 0);
+    }
+    note(draft, 0, first_word(shape));
+}
+
+// Plans an empty index, if its shape is allowed and the array has the words.
+pub(crate) fn plan_format(draft: &mut Draft, length: usize, max_depth: u64, segments: u64) -> u32
+    ensures { λ r. ⌜ r ≤ 11 ⌝ }
+{
+    let shape = shape_from(0, max_depth, segments);
+    if !shape.sound {
+        return BAD_SHAPE;
+    }
+    if length < words_of(shape) {
+        return TOO_SHORT;
+    }
+    note_empty(draft, shape);
+    DONE
+}

@@ -1,0 +1,129 @@
+// The split of a segment, as stores on the draft.
+use crate::array::SLOTS;
+use crate::array::entry_address;
+use crate::array::entry_at;
+use crate::array::entry_of;
+use crate::array::key_address;
+use crate::array::power;
+use crate::array::segment_of;
+use crate::array::shape_of;
+use crate::blocks::Block;
+use crate::blocks::block_of;
+use crate::blocks::key_in;
+use crate::blocks::value_in;
+use crate::draft::COPY;
+use crate::draft::Draft;
+use crate::draft::note;
+use crate::draft::note_record;
+use crate::route::is_live;
+use crate::route::route_bit;
+use crate::words::CELLS;
+use crate::words::Cells;
+use crate::words::set_word;
+use crate::words::word_at;
+use std::num::wrapping_add_u32;
+use std::num::wrapping_add_u64;
+
+// No segment: more than any number of segments.
+pub(crate) const NO_SEGMENT_NUMBER: u32 = 65536;
+
+// Marks each segment that an entry of the directory names.
+fn mark_named(words: &Cells, depth: u32, named: &mut Cells) {
+    let count = power(depth);
+    for index in 0..count {
+        let segment = segment_of(entry_at(words, depth, index));
+        set_word(named, segment as usize, 1);
+    }
+}
+
+// The smallest number below S that no entry names (split, step 1), or no segment.
+pub(crate) fn free_number(words: &Cells, length: usize) -> u32 {
+    let shape = shape_of(words, length);
+    let mut named = [0u64; CELLS];
+    mark_named(words, shape.depth, &mut named);
+    for segment in 0..shape.segments {
+        if word_at(&named, segment as usize) == 0 {
+            return segment;
+        }
+    }
+    NO_SEGMENT_NUMBER
+}
+
+// One entry of the doubling: entry e of the directory one deeper gets entry floor(e / 2).
+fn double_entry(draft: &mut Draft, depth: u32, index: u32) {
+    let entry = entry_at(&draft[COPY], depth, index / 2);
+    note(
+        draft,
+        entry_address(wrapping_add_u32(depth, 1), index),
+        entry,
+    );
+}
+
+// Doubles the directory of this depth (split, step 2): its entries, rising, and then word 0, whose
+// lowest bits hold G: with one more it has G + 1.
+pub(crate) fn double(draft: &mut Draft, depth: u32) {
+    let count = power(wrapping_add_u32(depth, 1));
+    for index in 0..count {
+        double_entry(draft, depth, index);
+    }
+    let first = word_at(&draft[COPY], 0);
+    note(draft, 0, wrapping_add_u64(first, 1));
+}
+
+// One slot of the copy step (split, step 3): a live record whose route bit number L is 1 goes to the
+// same slot of the new segment; any other slot is emptied there.
+fn copy_slot(draft: &mut Draft, block: Block, new_segment: u32, slot: u32) {
+    let copy = &draft[COPY];
+    let key = key_in(copy, block, slot);
+    let value = value_in(copy, block, slot);
+    if is_live(key, block) && route_bit(key, block.local_depth) == 1 {
+        note_record(draft, block.max_depth, new_segment, slot, key, value);
+    } else {
+        note(draft, key_address(block.max_depth, new_segment, slot), 0);
+    }
+}
+
+// The copy step over all slots.
+fn copy_slots(draft: &mut Draft, block: Block, new_segment: u32) {
+    for slot in 0..SLOTS {
+        copy_slot(draft, block, new_segment, slot);
+    }
+}
+
+// Gives the `width` entries from `start` on this word, from right to left.
+fn fill_entries(draft: &mut Draft, depth: u32, start: u32, width: u32, entry: u64) {
+    for passed in 0..width {
+        let index = wrapping_add_u32(start, width - 1 - passed);
+        note(draft, entry_address(depth, index), entry);
+    }
+}
+
+// The entries of a block (split, step 4): the right half gets the new segment, then the left half the
+// old one, both one deeper.
+fn halve(draft: &mut Draft, block: Block, new_segment: u32) {
+    let half = block.width / 2;
+    let middle = wrapping_add_u32(block.start, half);
+    let deeper = wrapping_add_u32(block.local_depth, 1);
+    fill_entries(
+        draft,
+        block.depth,
+        middle,
+        half,
+        entry_of(new_segment, deeper),
+    );
+    fill_entries(
+        draft,
+        block.depth,
+        block.start,
+        half,
+        entry_of(block.segment, deeper),
+    );
+}
+
+// Divides the key's block, as it is after any doubling, between its segment and the new one.
+pub(crate) fn divide(draft: &mut Draft, length: usize, key: u64, new_segment: u32) {
+    let copy = &draft[COPY];
+    let block = block_of(copy, length, key);
+    copy_slots(draft, block, new_segment);
+    halve(draft, block, new_segment);
+}
