@@ -1,4 +1,3 @@
 -- The laws of a script that is run.
 pub mod Runs
-pub mod Joined
 pub mod Samples

@@ -4,13 +4,12 @@
 use Prim.Native.Nat.{ℕ}
 use mathlib.Core.Path.{_≡_, refl}
 use mathlib.Core.List.{List, [], _∷_}
-use lib.ListN.{replicate}
 use Rattle.rules.proofs.Table.{computed}
 use Rattle.desk_text.specs.Parts.{startedBy, parts, nonempty, linesOf, fieldsOf}
 use Rattle.desk_text.specs.Number.{isDigit, allDigits, valueFrom, number, spelled, decimal}
 use Rattle.desk_text.specs.Line.{both, numbersOf, allowed, callWith, calledWith, callOfFields, callOf}
 use Rattle.desk_text.specs.Output.{valuesText, answerLine}
-use Rattle.desk_run.specs.Run.{ranCall, ranLines, ran}
+use Rattle.desk_run.specs.Run.{ranCall, ranLines, ran, deskOutput}
 
 -- A line of the document to a line.
 pub example : List ℕ
@@ -37,6 +36,6 @@ written =
     ∷ 76 ∷ 9 ∷ 48 ∷ 9 ∷ 48 ∷ 9 ∷ 48 ∷ 10
     ∷ []
 
-pub example-writes : (ran 512 (replicate 4160 0) example) .text ≡ written
+pub example-writes : deskOutput example ≡ written
 unfolding example written computed startedBy parts nonempty linesOf fieldsOf isDigit allDigits valueFrom number spelled decimal both numbersOf allowed callWith calledWith callOfFields callOf valuesText answerLine ranCall ranLines ran
 example-writes = refl

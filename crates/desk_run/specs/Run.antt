@@ -4,7 +4,7 @@ use Prim.Native.Nat.{ℕ}
 use mathlib.Core.List.{List, [], _∷_, _++_}
 use mathlib.Core.Option.{Option, none, some}
 use lib.Dec.{leb}
-use lib.ListN.{length}
+use lib.ListN.{length, replicate}
 use Rattle.stores.specs.Lists.{pick}
 use Rattle.stores.specs.Plan.{Outcome}
 use Rattle.rules.specs.declared.Call.{Call}
@@ -46,3 +46,15 @@ ranLines room a (line ∷ lines) =
 -- A whole script; one of too many bytes gives the single line `!`, and nothing is run.
 unfoldable pub ran : (room : ℕ) → List ℕ → (script : List ℕ) → Ran
 ran room a script = pick (leb (length script) mostBytes) (ranLines room a (linesOf script)) (record { text = tooLongLine; words = a })
+
+-- The words that the desk program owns, all 0 at the start.
+abbrev pub indexWords : ℕ
+indexWords = 4160
+
+-- The words of the list array that it lends.
+abbrev pub listWords : ℕ
+listWords = 512
+
+-- What the desk program writes for a script.
+abbrev pub deskOutput : (script : List ℕ) → List ℕ
+deskOutput script = (ran listWords (replicate indexWords 0) script) .text

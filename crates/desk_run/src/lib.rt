@@ -1,4 +1,4 @@
-// A script run on an index: each line's call is made, and its answer written to the output buffer.
+// A script run on an index: each line's call is made, and its answer written to the output.
 use desk_text::line::Line;
 use desk_text::line::letter_of;
 use desk_text::line::read_line;
@@ -7,24 +7,29 @@ use desk_text::output::write_answer;
 use desk_text::output::write_other;
 use desk_text::output::write_too_long;
 use desk_text::script::next_line;
-ghost use Prim.Native.Nat.{_+_, _≤_};
-ghost use lib.ListN.{length};
+ghost use Prim.Native.Nat.{_+_, _*_, _≤_};
+ghost use lib.ListN.{length, drop};
+ghost use Rattle.stores.specs.Written.{Written};
+ghost use Rattle.desk_text.specs.Parts.{linesOf};
 ghost use Rattle.desk_text.specs.Output.{lineRoom};
-ghost use Rattle.desk_run.specs.Progress.{LineRan, Advanced, LinesRan, Stopped, Progressed};
+ghost use Rattle.desk_run.specs.Run.{ranLines};
+ghost use Rattle.desk_run.specs.Progress.{LineRan, LinesRan, Onward, OutputWritten};
 
 // The most bytes of a script.
 pub const MOST_BYTES: usize = 16384;
 
-// The words that a program of the desk owns, and those of the list array that it lends. A run takes
-// any.
-pub const WORDS: usize = 4160;
+// The bytes of the output array: a script has at most a line for two bytes, and each line has room.
+pub const OUTPUT_BYTES: usize = MOST_BYTES / 2 * LINE_ROOM;
 
-pub const LIST_WORDS: usize = 512;
+// The words that the desk program owns, and those of the list array that it lends.
+const INDEX_WORDS: usize = 4160;
 
-// How far a run has come: the position in the script, and the bytes written to the output buffer.
-pub struct Progress {
-    pub next: usize,
-    pub written: usize,
+const LIST_WORDS: usize = 512;
+
+// How far a run has come: the position in the script, and the bytes written to the output.
+struct Progress {
+    next: usize,
+    written: usize,
 }
 
 // Runs one line on the index, and writes its line of output from position `at` on.
@@ -48,8 +53,8 @@ fn run_next(
     out: &mut [u8],
     at: usize,
 ) -> Progress
-    requires { ⌜ at + lineRoom ≤ length (now out) ⌝ }
-    ensures { λ r. ⌜ Advanced (now (script .entry)) from (length (now (list .entry))) (now (words .entry)) at (now (out .entry)) (r .next) (r .written) (now (words .exit)) (now (out .exit)) ⌝ }
+    requires { ⌜ at + lineRoom * length (linesOf (drop from (now script))) ≤ length (now out) ⌝ }
+    ensures { λ r. ⌜ LinesRan (now (script .entry)) from (length (now (list .entry))) (now (words .entry)) at (now (out .entry)) (r .next) (r .written) (now (words .exit)) (now (out .exit)) × Onward (length (now (script .entry))) from (r .next) ⌝ }
 {
     let line = next_line(script, from);
     let start = line.start;
@@ -64,62 +69,31 @@ fn run_next(
     Progress { next: end, written }
 }
 
-// Runs lines from position `from` on until the script ends or the buffer has no room for another
-// line.
-fn run_lines(
-    script: &[u8],
-    from: usize,
-    words: &mut [u64],
-    list: &mut [u64],
-    out: &mut [u8],
-) -> Progress
-    requires { ⌜ from ≤ length (now script) ⌝ }
-    ensures { λ r. ⌜ LinesRan (now (script .entry)) from (length (now (list .entry))) (now (words .entry)) (now (out .entry)) (r .next) (r .written) (now (words .exit)) (now (out .exit)) × Stopped (now (script .entry)) from (now (out .entry)) (r .next) (r .written) ⌝ }
+// Runs all lines of a script, and answers the number of bytes written.
+fn run_lines(script: &[u8], words: &mut [u64], list: &mut [u64], out: &mut [u8]) -> usize
+    requires { ⌜ lineRoom * length (linesOf (now script)) ≤ length (now out) ⌝ }
+    ensures { λ r. ⌜ Written (ranLines (length (now (list .entry))) (now (words .entry)) (linesOf (now (script .entry))) .text) 0 (now (out .entry)) r (now (out .exit)) ⌝ }
 {
-    let mut next = from;
+    let mut next = 0;
     let mut written = 0;
     while next < script.len() {
-        if out.len() - written < LINE_ROOM {
-            return Progress { next, written };
-        }
         let step = run_next(script, next, words, list, out, written);
         next = step.next;
         written = step.written;
     }
-    Progress { next, written }
+    written
 }
 
-// Runs the script from position `from` on until it ends or the buffer has no room for another line.
-// Where too many bytes are left, it runs nothing, and writes the line that says so. From the script's
-// end on there is nothing to run. The list array is room for listings: what stands in it afterwards is
-// the program's choice, and no output depends on it.
-pub fn run(
-    script: &[u8],
-    from: usize,
-    words: &mut [u64],
-    list: &mut [u64],
-    out: &mut [u8],
-) -> Progress
-    ensures { λ r. ⌜ Progressed (now (script .entry)) from (length (now (list .entry))) (now (words .entry)) (now (out .entry)) (r .next) (r .written) (now (words .exit)) (now (out .exit)) ⌝ }
+// Runs the script as the desk program does, on an index of words that are all 0, and answers the
+// number of bytes written. A script of too many bytes is not run, and one line says so. The list array
+// is room for listings: no output depends on what it holds.
+pub fn run(script: &[u8], out: &mut [u8; OUTPUT_BYTES]) -> usize
+    ensures { λ r. ⌜ OutputWritten (now (script .entry)) (now (out .entry)) r (now (out .exit)) ⌝ }
 {
-    if script.len() <= from {
-        return Progress {
-            next: script.len(),
-            written: 0,
-        };
+    if MOST_BYTES < script.len() {
+        return write_too_long(out, 0);
     }
-    if script.len() - from <= MOST_BYTES {
-        return run_lines(script, from, words, list, out);
-    }
-    if out.len() < LINE_ROOM {
-        return Progress {
-            next: from,
-            written: 0,
-        };
-    }
-    let written = write_too_long(out, 0);
-    Progress {
-        next: script.len(),
-        written,
-    }
+    let mut words = [0u64; INDEX_WORDS];
+    let mut list = [0u64; LIST_WORDS];
+    run_lines(script, &mut words, &mut list, out)
 }

@@ -1,31 +1,15 @@
 // Runs scripts of the desk against stored outputs. The arguments are file names in pairs: a script,
 // and the output that it must give.
-use desk_run::LIST_WORDS;
-use desk_run::WORDS;
-use desk_text::output::LINE_ROOM;
+use desk_run::OUTPUT_BYTES;
 use libc::STDOUT_FILENO;
 use std::num::wrapping_add_u64;
-ghost use Prim.Native.Nat.{_≤_, _<_};
-ghost use lib.ListN.{length};
+ghost use Prim.Native.Nat.{_≤_};
 ghost use Rattle.io.specs.Counts.{Counts};
-ghost use Rattle.desk_text.specs.Output.{lineRoom};
-ghost use Rattle.desk_test.specs.Step.{Stepped};
 
 // A file that fills its buffer counts as not read.
 const SCRIPT_BYTES: usize = 32768;
 
 const EXPECTED_BYTES: usize = 131072;
-
-// Room for one line of output, or for some short ones: a run stops and goes on many times.
-const SMALL_ROOM: usize = LINE_ROOM + 2;
-
-// How far a run has come: the position in the script, the position in the expected output, and
-// whether the last part written is the part expected.
-struct Step {
-    next: usize,
-    at: usize,
-    is_same: bool,
-}
 
 // Whether two parts hold the same bytes.
 fn is_equal(a: &[u8], b: &[u8]) -> bool {
@@ -40,81 +24,11 @@ fn is_equal(a: &[u8], b: &[u8]) -> bool {
     true
 }
 
-// Runs the script from position `from` on as far as the output buffer has room, and compares what
-// that writes with the expected output from position `at` on.
-fn run_part(
-    script: &[u8],
-    from: usize,
-    expected: &[u8],
-    at: usize,
-    words: &mut [u64],
-    list: &mut [u64],
-    out: &mut [u8],
-) -> Step
-    requires { ⌜ (from < length (now script)) × (at ≤ length (now expected)) × (lineRoom ≤ length (now out)) ⌝ }
-    ensures { λ r. ⌜ Stepped from (length (now (script .entry))) (length (now (expected .entry))) (r .next) (r .at) ⌝ }
-{
-    let progress = desk_run::run(script, from, words, list, out);
-    let next = progress.next;
-    let written = progress.written;
-    if expected.len() - at < written {
-        return Step {
-            next,
-            at,
-            is_same: false,
-        };
-    }
-    let is_same = is_equal(&out[..written], &expected[at..at + written]);
-    Step {
-        next,
-        at: at + written,
-        is_same,
-    }
-}
-
-// Whether the whole script, run in parts, gives the expected output and no more.
-fn gives(
-    script: &[u8],
-    expected: &[u8],
-    words: &mut [u64],
-    list: &mut [u64],
-    out: &mut [u8],
-) -> bool
-    requires { ⌜ lineRoom ≤ length (now out) ⌝ }
-{
-    let mut next = 0;
-    let mut at = 0;
-    while next < script.len() {
-        let step = run_part(script, next, expected, at, words, list, out);
-        if !step.is_same {
-            return false;
-        }
-        next = step.next;
-        at = step.at;
-    }
-    next == script.len() && at == expected.len()
-}
-
-// Whether the script gives the expected output on an index of words that are all 0, with the output
-// buffer lent.
-fn gives_from_nothing(script: &[u8], expected: &[u8], out: &mut [u8]) -> bool
-    requires { ⌜ lineRoom ≤ length (now out) ⌝ }
-{
-    let mut words = [0u64; WORDS];
-    let mut list = [0u64; LIST_WORDS];
-    gives(script, expected, &mut words, &mut list, out)
-}
-
-// Whether the script gives the expected output with much room.
-fn gives_with_much_room(script: &[u8], expected: &[u8]) -> bool {
-    let mut out = io::large_buffer();
-    gives_from_nothing(script, expected, &mut out)
-}
-
-// Whether the script gives the expected output with little room.
-fn gives_with_little_room(script: &[u8], expected: &[u8]) -> bool {
-    let mut out = [0u8; SMALL_ROOM];
-    gives_from_nothing(script, expected, &mut out)
+// Whether the script gives the expected output and no more.
+fn gives(script: &[u8], expected: &[u8]) -> bool {
+    let mut out = [0u8; OUTPUT_BYTES];
+    let written = desk_run::run(script, &mut out);
+    is_equal(&out[..written], expected)
 }
 
 // Writes a tab and a number.
@@ -123,12 +37,11 @@ fn write_field(number: u64) {
     io::print_decimal(STDOUT_FILENO, number);
 }
 
-// Runs the script with much and with little room, and writes the rest of its line.
+// Runs the script, and writes the rest of its line.
 fn test_script(script: &[u8], expected: &[u8]) -> bool {
     write_field(script.len() as u64);
     write_field(expected.len() as u64);
-    let is_same = gives_with_much_room(script, expected)
-        && gives_with_little_room(script, expected);
+    let is_same = gives(script, expected);
     if is_same {
         io::write_all(STDOUT_FILENO, b"\tsame\n");
     } else {

@@ -1,15 +1,19 @@
 -- The lines of a script, one after the other.
 -- Assumes nothing.
-use Prim.Native.Nat.{ℕ, suc, _+_, _-_, _≤_, _<_}
+use Prim.Native.Nat.{ℕ, suc, _+_, _-_, _*_, _≤_, _<_}
 use mathlib.Core.Path.{_≡_, refl, sym, ap, _∙_}
+use mathlib.Core.Bool.{true, false}
 use mathlib.Core.List.{List, [], _∷_}
+use mathlib.Core.Logic.{⊎-elim}
 use native.Mathlib.Numerals.{add-one}
 use native.Mathlib.Omega.{arith}
 use borrow.Author.Tests.{ne-eqb, lt-ltb, le-ltb}
+use lib.Dec.{eqb}
 use lib.ListN.{length, take, drop, getD, drop-of-length-le}
 use lib.Seq.{drop-cons, drop-drop}
+use Rattle.stores.proofs.Tests.{cases}
 use Rattle.bytes.specs.Bytes.{indexOf, indexAfter, slice}
-use Rattle.desk_text.specs.Parts.{lineFeed, parts, nonempty, linesOf}
+use Rattle.desk_text.specs.Parts.{lineFeed, startedBy, parts, nonempty, linesOf}
 use Rattle.desk_text.specs.Script.{NextLine}
 use Rattle.desk_text.proofs.Fields.{parts-first, parts-from, found-index}
 
@@ -76,3 +80,32 @@ line-none script from start h skipped =
       none-left = λ same. refl;
       lines = skipped ∙ rw (le-ltb (length script) (length script) (omega arith), drop-of-length-le script h) lines-none;
     }
+
+-- ---- How many lines there are
+
+-- 1 where the first part is empty.
+abbrev firstEmpty : List (List ℕ) → ℕ
+firstEmpty [] = 0
+firstEmpty ([] ∷ ps) = 1
+firstEmpty ((x ∷ p) ∷ ps) = 0
+
+started-few : (x n : ℕ) (ps : List (List ℕ)) → 2 * length (nonempty ps) + firstEmpty ps ≤ n + 1
+    → 2 * length (nonempty (startedBy x ps)) + firstEmpty (startedBy x ps) ≤ suc n + 1
+unfolding nonempty startedBy
+started-few x n [] h = omega arith
+started-few x n ([] ∷ ps) h = omega arith
+started-few x n ((y ∷ p) ∷ ps) h = omega arith
+
+parts-few : (xs : List ℕ) → 2 * length (nonempty (parts lineFeed xs)) + firstEmpty (parts lineFeed xs) ≤ length xs + 1
+unfolding nonempty parts
+parts-few [] = omega arith
+parts-few (x ∷ xs) =
+    ⊎-elim
+    (λ (e : eqb x lineFeed ≡ true). rw e (omega (arith, parts-few xs)))
+    (λ (e : eqb x lineFeed ≡ false). rw e (started-few x (length xs) (parts lineFeed xs) (parts-few xs)))
+    (cases (eqb x lineFeed))
+
+-- Lines are parted by line feeds and none is empty, so twice their number is at most one more than the bytes.
+pub lines-few : (script : List ℕ) → 2 * length (linesOf script) ≤ length script + 1
+unfolding linesOf
+lines-few script = omega (arith, parts-few script)

@@ -1,16 +1,12 @@
--- The fields of an answer's line: how long they are, and what they are for each reply. A line after the test of its room.
+-- The fields of an answer's line: how long they are, and what they are for each reply.
 -- Assumes nothing.
-use Prim.Native.Nat.{ℕ, _+_, _≤_, _<_}
-use mathlib.Core.Path.{_≡_, refl, sym, _∙_}
-use mathlib.Core.Bool.{Bool, true, false, not}
-use mathlib.Core.List.{List, [], _∷_, _++_, append-nil}
+use Prim.Native.Nat.{ℕ, _≤_}
+use mathlib.Core.Path.{_≡_, refl}
+use mathlib.Core.List.{[], _∷_, _++_, append-nil}
 use native.Mathlib.Omega.{arith}
-use borrow.Author.Tests.{leb-true, leb-false, not-true, not-false}
-use lib.Dec.{leb}
-use lib.ListN.{length}
+use lib.ListN.{length, length-append}
 use denote.Enum.Declared
 use types.Run.{OneOf, miss}
-use Rattle.stores.specs.Written.{Written}
 use Rattle.rules.proofs.Reply
 use Rattle.rules.specs.declared.Refusal.{Refusal}
 use Rattle.rules.specs.declared.Refusal.the-variants.{NoStore, NoKey, Broken, Unmended, TooDeep, NoSegment, CutOff, BadShape, TooShort, ShortList}
@@ -19,7 +15,8 @@ use Rattle.rules.specs.declared.Reply.the-variants.{Done, Value, Absent, Refuse
 use Rattle.rules.specs.Replies.{numberOf, saidBy}
 use Rattle.desk_text.specs.Parts.{tab, lineFeed}
 use Rattle.desk_text.specs.Number.{decimal, spelled}
-use Rattle.desk_text.specs.Output.{replyText, valuesText, endText, lineRoom, LineWritten}
+use Rattle.desk_text.specs.Output.{replyText, valuesText, endText, answerLine, lineRoom}
+use Rattle.desk_text.proofs.Digits.{length-decimal}
 
 -- The number of a refusal has at most two digits.
 pub length-refusal : (r : Refusal) → length (decimal (numberOf r)) ≤ 2
@@ -54,18 +51,10 @@ end-plain (Value v) t = absurd (miss (0 ∷ 2 ∷ 3 ∷ []) 1 Prim.tt t)
 end-plain Absent t = refl
 end-plain (Refused r) t = refl
 
--- A line after the test of its room: written where there is room, and left out where there is none.
-module _ (at : ℕ) (before : List ℕ) (r : Bool) (tested : r ≡ leb (at + lineRoom) (length before)) where
-  pub line-fits : not r ≡ false → at + lineRoom ≤ length before
-  line-fits left = leb-true _ _ (sym tested ∙ not-false r left)
-
-  pub line-written : {text : List ℕ} {next : ℕ} {after : List ℕ} → not r ≡ false → Written text at before next after
-      → LineWritten text at before next after
-  line-written left w =
-      let fits : at + lineRoom ≤ length before = line-fits left in
-      record { room = λ enough. w; no-room = λ few. absurd (omega arith) }
-
-  pub line-left-out : {text : List ℕ} → not r ≡ true → LineWritten text at before at before
-  line-left-out taken =
-      let full : length before < at + lineRoom = leb-false _ _ (sym tested ∙ not-true r taken) in
-      record { room = λ enough. absurd (omega arith); no-room = λ few. (refl, refl) }
+-- The line of an answer has room in `lineRoom` bytes.
+pub length-answer : (letter : ℕ) (r : Reply) (stores : ℕ) → length (answerLine letter (saidBy r) stores) ≤ lineRoom
+unfolding answerLine valuesText
+length-answer letter Done stores = simp length-append (omega (arith, length-decimal stores))
+length-answer letter (Value v) stores = simp length-append (omega (arith, length-decimal stores, length-decimal v))
+length-answer letter Absent stores = simp length-append (omega (arith, length-decimal stores))
+length-answer letter (Refused r) stores = simp length-append (omega (arith, length-decimal stores, length-refusal r))

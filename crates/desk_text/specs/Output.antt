@@ -1,10 +1,7 @@
 -- Document 01, 'The desk program': the lines of output.
 -- Assumes nothing.
-use Prim.Native.Nat.{ℕ, _+_, _≤_, _<_}
-use mathlib.Core.Path.{_≡_}
+use Prim.Native.Nat.{ℕ}
 use mathlib.Core.List.{List, [], _∷_, _++_}
-use lib.ListN.{length}
-use Rattle.stores.specs.Written.{Written}
 use Rattle.rules.specs.Replies.{Said, done, absent, refused}
 use Rattle.desk_text.specs.Parts.{tab, lineFeed}
 use Rattle.desk_text.specs.Number.{decimal}
@@ -50,10 +47,3 @@ tooLongLine = 33 ∷ lineFeed ∷ []
 -- The bytes of room for the longest line: letter, reply, stores and value with their tabs and the line feed.
 abbrev pub lineRoom : ℕ
 lineRoom = 48
-
--- A line has been written from position `at` on, if there is room for one.
-pub record LineWritten (text : List ℕ) (at : ℕ) (before : List ℕ) (next : ℕ) (after : List ℕ) : Type 0 where
-  -- With room for the longest line, the text stands there, and `next` is the position behind it.
-  pub room : at + lineRoom ≤ length before → Written text at before next after
-  -- With less, nothing is written, and the position stays.
-  pub no-room : length before < at + lineRoom → (next ≡ at) × (after ≡ before)

@@ -6,15 +6,13 @@ use rules::Answer;
 use rules::Reply;
 use rules::refusal_number;
 ghost use Prim.Native.Nat.{_+_, _≤_, _<_};
-ghost use mathlib.Core.Path.{_≡_};
 ghost use mathlib.Core.List.{[], _∷_};
-ghost use lib.Dec.{leb};
 ghost use lib.ListN.{length};
 ghost use Rattle.stores.specs.Written.{Written};
 ghost use Rattle.rules.specs.Replies.{saidBy};
 ghost use Rattle.desk_text.specs.Parts.{tab, lineFeed};
 ghost use Rattle.desk_text.specs.Number.{decimal};
-ghost use Rattle.desk_text.specs.Output.{replyText, headText, endText, answerLine, otherLine, tooLongLine, lineRoom, LineWritten};
+ghost use Rattle.desk_text.specs.Output.{replyText, headText, endText, answerLine, otherLine, tooLongLine, lineRoom};
 
 // The bytes of room for the longest line.
 pub const LINE_ROOM: usize = 48;
@@ -73,7 +71,7 @@ fn write_end(reply: Reply, out: &mut [u8], at: usize) -> usize
     write_byte(LINE_FEED, out, next)
 }
 
-// Writes a line of one byte; there is room for it.
+// Writes a line of one byte.
 fn write_mark(byte: u8, out: &mut [u8], at: usize) -> usize
     requires { ⌜ at + lineRoom ≤ length (now out) ⌝ }
     ensures { λ r. ⌜ Written (byte ∷ lineFeed ∷ []) at (now (out .entry)) r (now (out .exit)) ⌝ }
@@ -82,8 +80,8 @@ fn write_mark(byte: u8, out: &mut [u8], at: usize) -> usize
     write_byte(LINE_FEED, out, next)
 }
 
-// Writes the line of an answer; there is room for it.
-fn write_answer_line(letter: u8, answer: Answer, out: &mut [u8], at: usize) -> usize
+// Writes the line of an answer from position `at` on, and answers the position behind it.
+pub fn write_answer(letter: u8, answer: Answer, out: &mut [u8], at: usize) -> usize
     requires { ⌜ at + lineRoom ≤ length (now out) ⌝ }
     ensures { λ r. ⌜ Written (answerLine letter (saidBy (answer .reply)) (answer .stores)) at (now (out .entry)) r (now (out .exit)) ⌝ }
 {
@@ -94,46 +92,18 @@ fn write_answer_line(letter: u8, answer: Answer, out: &mut [u8], at: usize) -> u
     write_end(reply, out, next)
 }
 
-// Whether a buffer of `size` bytes has room for a line from position `at` on.
-fn has_room(size: usize, at: usize) -> bool
-    ensures { λ r. ⌜ r ≡ leb (at + lineRoom) size ⌝ }
-{
-    if size < LINE_ROOM {
-        return false;
-    }
-    if size - LINE_ROOM < at {
-        return false;
-    }
-    true
-}
-
-// Writes the line of an answer from position `at` on, and answers the position behind it. Where the
-// buffer has no room for a line, it writes nothing and answers `at`.
-pub fn write_answer(letter: u8, answer: Answer, out: &mut [u8], at: usize) -> usize
-    ensures { λ r. ⌜ LineWritten (answerLine letter (saidBy (answer .reply)) (answer .stores)) at (now (out .entry)) r (now (out .exit)) ⌝ }
-{
-    if !has_room(out.len(), at) {
-        return at;
-    }
-    write_answer_line(letter, answer, out, at)
-}
-
 // Writes the line for a line that is no call, in the same way.
 pub fn write_other(out: &mut [u8], at: usize) -> usize
-    ensures { λ r. ⌜ LineWritten otherLine at (now (out .entry)) r (now (out .exit)) ⌝ }
+    requires { ⌜ at + lineRoom ≤ length (now out) ⌝ }
+    ensures { λ r. ⌜ Written otherLine at (now (out .entry)) r (now (out .exit)) ⌝ }
 {
-    if !has_room(out.len(), at) {
-        return at;
-    }
     write_mark(b'?', out, at)
 }
 
 // Writes the line for a script of too many bytes, in the same way.
 pub fn write_too_long(out: &mut [u8], at: usize) -> usize
-    ensures { λ r. ⌜ LineWritten tooLongLine at (now (out .entry)) r (now (out .exit)) ⌝ }
+    requires { ⌜ at + lineRoom ≤ length (now out) ⌝ }
+    ensures { λ r. ⌜ Written tooLongLine at (now (out .entry)) r (now (out .exit)) ⌝ }
 {
-    if !has_room(out.len(), at) {
-        return at;
-    }
     write_mark(b'!', out, at)
 }

@@ -36,9 +36,9 @@ module _ (ws : List ℕ) (at : ℕ) (l : List ℕ) (next : ℕ) (l′ : List ℕ
       ∙ drop-at (take at l ++ ws) (drop (at + length ws) l) next front-length
       ∙ ap (λ (k : ℕ). drop k l) (sym (w .behind))
 
-  -- They have room where the list is as long as before.
-  pub written-within : length l′ ≡ length l → next ≤ length l
-  written-within kept =
+  -- They stand within the list.
+  pub written-within : next ≤ length l′
+  written-within =
       let whole : length l′ ≡ length (take at l ++ ws) + length (drop (at + length ws) l) =
       ap length (w .list) ∙ length-append (take at l ++ ws) (drop (at + length ws) l) in
       let front : length (take at l ++ ws) ≡ next = front-length in

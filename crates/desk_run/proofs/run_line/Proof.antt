@@ -24,7 +24,7 @@ same-length c = search needs
 
 returns : tie.Need-returns
 returns c =
-    line-other _ _ _ _ _ _ _ (sym (c .before .before .before .before .before .before .read-line .ensures) ∙ ap lineSaid (c .before .before .before .before .enum-told .given .1)) (c .before .before .write-other .ensures .room (search needs))
+    line-other _ _ _ _ _ _ _ (sym (c .before .before .before .before .before .before .read-line .ensures) ∙ ap lineSaid (c .before .before .before .before .enum-told .given .1)) (c .before .before .write-other .ensures)
 
 perform-requires : tie.Need-perform-requires
 perform-requires c κs = search needs
@@ -47,7 +47,7 @@ same-length-4 c = search needs
 returns-2 : tie.Need-returns-2
 returns-2 c =
     line-called _ _ _ _ _ _ _ _ _ _ _ _ _ (sym (c .before .before .before .before .before .before .before .before .before .before .before .before .before .before .before .read-line .ensures) ∙ ap lineSaid (c .before .before .before .before .before .before .before .before .before .before .before .before .before .call .given .1)) refl (c .before .before .before .before .letter-of .ensures) (c .before .before .before .before .before .before .before .before .before .perform .ensures)
-    (c .before .before .write-answer .ensures .room (search needs))
+    (c .before .before .write-answer .ensures)
 
 pub run-line-spec : {M : Type 1} → statement M
 run-line-spec =

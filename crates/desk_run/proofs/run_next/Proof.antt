@@ -1,7 +1,8 @@
 -- `desk_run::run_next` meets its contract.
 -- Assumes nothing.
+use lib.ListN.{length}
 use borrow.Author.Needs.{needs}
-use Rattle.desk_run.proofs.Runs.{advanced-line, advanced-none}
+use Rattle.desk_run.proofs.Runs.{next-room, next-ran, next-none}
 use Rattle.desk_run.proofs.run_next.Statement.{statement}
 use Rattle.desk_run.proofs.run_next.Tie as tie
 
@@ -10,7 +11,7 @@ next-line-requires c κs = search needs
 
 returns : tie.Need-returns
 returns c =
-    advanced-none _ _ _ _ (c .before .next-line .ensures) _ _ _ _ (c .if1 .taken)
+    next-none _ _ _ _ (c .before .next-line .ensures) _ _ _ _ (c .if1 .taken)
 
 sub-run-line : tie.Need-sub-run-line
 sub-run-line c = search needs
@@ -22,7 +23,7 @@ part-run-line-end : tie.Need-part-run-line-end
 part-run-line-end c = search needs
 
 run-line-requires : tie.Need-run-line-requires
-run-line-requires c κs = search needs
+run-line-requires c κs = next-room _ _ _ _ (c .before .before .before .before .before .next-line .ensures) (length (c .before .before .before .before .before .before .before .before .before .before .args .list .now)) (c .before .before .before .before .before .before .before .before .before .before .args .words .now) _ (c .before .before .before .before .before .before .before .before .before .before .args .out .now) (c .before .before .before .before .if1 .left) (c .before .before .before .before .before .before .before .before .before .before .pre)
 
 same-length : tie.Need-same-length
 same-length c = search needs
@@ -35,7 +36,7 @@ same-length-3 c = search needs
 
 returns-2 : tie.Need-returns-2
 returns-2 c =
-    advanced-line _ _ _ _ (c .before .before .before .before .before .before .before .before .before .before .before .before .next-line .ensures) _ _ _ _ _ _ _ (c .before .before .before .before .before .before .before .before .before .before .before .if1 .left) (c .before .before .before .before .before .before .run-line .ensures)
+    next-ran _ _ _ _ (c .before .before .before .before .before .before .before .before .before .before .before .before .next-line .ensures) _ _ _ _ (c .before .before .before .before .before .before .before .before .before .before .before .if1 .left) _ _ _ (c .before .before .before .before .before .before .run-line .ensures)
 
 pub run-next-spec : {M : Type 1} → statement M
 run-next-spec =

@@ -1,25 +1,53 @@
 -- `desk_text::output::write_answer` meets its contract.
 -- Assumes nothing.
+use Prim.Native.Nat.{_+_}
+use mathlib.Core.List.{[], _∷_, _++_}
+use native.Mathlib.Omega.{arith}
 use borrow.Author.Needs.{needs}
-use Rattle.desk_text.proofs.Texts.{line-fits, line-written, line-left-out}
+use mathlib.Core.List.{append-assoc}
+use Rattle.stores.proofs.Written.{written-append}
+use Rattle.rules.specs.Replies.{saidBy}
+use Rattle.desk_text.specs.Parts.{tab, lineFeed}
+use Rattle.desk_text.specs.Number.{decimal}
+use Rattle.desk_text.specs.Output.{headText, saidText, endText, answerLine}
+use Rattle.desk_text.proofs.Digits.{length-decimal}
+use Rattle.desk_text.proofs.Texts.{length-reply}
 use Rattle.desk_text.proofs.output.write_answer.Statement.{statement}
 use Rattle.desk_text.proofs.output.write_answer.Tie as tie
 
-has-room-requires : tie.Need-has-room-requires
-has-room-requires c κs = search needs
+cast-stores : tie.Need-cast-stores
+cast-stores c = search needs
 
-returns : tie.Need-returns
-returns c = line-left-out _ _ _ (c .before .has-room .ensures) (c .if1 .taken)
+write-head-requires : tie.Need-write-head-requires
+write-head-requires c κs = search needs
 
-write-answer-line-requires : tie.Need-write-answer-line-requires
-write-answer-line-requires c κs = line-fits _ (c .before .before .before .before .args .out .now) _ (c .before .before .has-room .ensures) (c .before .if1 .left)
+write-field-requires : tie.Need-write-field-requires
+write-field-requires c κs =
+    omega (arith, length-reply (c .before .before .before .before .before .before .before .args .answer .reply), c .before .before .before .write-head .ensures .behind)
+
+write-end-requires : tie.Need-write-end-requires
+write-end-requires c κs =
+    omega (arith, length-reply (c .before .before .before .before .before .before .before .before .before .before .before .args .answer .reply), length-decimal (c .before .before .before .before .before .before .before .before .before .before .before .args .answer .stores), c .before .before .before .before .before .before .before .write-head .ensures .behind, c .before .before .before .write-field .ensures .behind)
 
 same-length : tie.Need-same-length
 same-length c = search needs
 
-returns-2 : tie.Need-returns-2
-returns-2 c =
-    line-written _ _ _ (c .before .before .before .before .before .has-room .ensures) (c .before .before .before .before .if1 .left) (c .before .before .write-answer-line .ensures)
+returns : tie.Need-returns
+unfolding answerLine
+returns c =
+    let said = saidBy (c .before .before .before .before .before .before .before .before .before .before .before .before .before .before .args .answer .reply) in
+    rw (append-assoc (headText (c .before .before .before .before .before .before .before .before .before .before .before .before .before .before .args .letter) said ++ (tab ∷ decimal (c .before .before .before .before .before .before .before .before .before .before .before .before .before .before .args .answer .stores))) (saidText said) (lineFeed ∷ []))
+    (written-append (headText (c .before .before .before .before .before .before .before .before .before .before .before .before .before .before .args .letter) said ++ (tab ∷ decimal (c .before .before .before .before .before .before .before .before .before .before .before .before .before .before .args .answer .stores))) (endText said) _ _ _ _ _ _ (search needs)
+    (written-append (headText (c .before .before .before .before .before .before .before .before .before .before .before .before .before .before .args .letter) said) (tab ∷ decimal (c .before .before .before .before .before .before .before .before .before .before .before .before .before .before .args .answer .stores)) _ _ _ _ _ _ (search needs) (c .before .before .before .before .before .before .before .before .before .before .write-head .ensures) (c .before .before .before .before .before .before .write-field .ensures))
+    (c .before .before .write-end .ensures))
 
 pub write-answer-spec : {M : Type 1} → statement M
-write-answer-spec = tie.close (tie.spec has-room-requires returns write-answer-line-requires same-length returns-2)
+write-answer-spec =
+    tie.close
+    (tie.spec
+    cast-stores
+    write-head-requires
+    write-field-requires
+    write-end-requires
+    same-length
+    returns)

@@ -1,2 +1,0 @@
--- The definitions of `desk_test`.
-pub mod Step
