@@ -1,6 +1,6 @@
 // The text of the desk program: the lines of a script, the call of a line, the line of an answer.
 pub mod line;
-pub mod number;
+mod number;
 pub mod output;
 pub mod script;
 

@@ -37,7 +37,7 @@ fn with_digit(value: u64, byte: u8) -> Number
 }
 
 // Reads a field as a number.
-pub fn read_number(field: &[u8]) -> Number
+pub(crate) fn read_number(field: &[u8]) -> Number
     ensures { λ r. ⌜ numberSaid r ≡ number (now (field .entry)) ⌝ }
 {
     if field.len() < 1 {

@@ -19,16 +19,17 @@ NoList (Mend allowance) = Unit {0}
 NoList ListCall = ⊥
 
 module _ (a l : List ℕ) (r : Answer) (b : List ℕ) where
-  -- Such a call does not look at the list array, and leaves it.
-  same-performed : (call : Call) → NoList call → Answered (step a 0 call) r b → Performed call a l r b l
+  -- What `format`, `get`, `put`, `remove` and `mend` promise is a performed call, with any list array: they do not look at it, and
+  -- leave it. (`list` promises a performed call as it stands.)
+  pub answered-performed : (call : Call) → NoList call → Answered (step a 0 call) r b → Performed call a l r b l
   unfolding step
-  same-performed (Format D S allowance) q k = record { reply = k .reply; stores = k .stores; words = k .words; listed = refl }
-  same-performed (Get key) q k = record { reply = k .reply; stores = k .stores; words = k .words; listed = refl }
-  same-performed (Put key value allowance) q k = record { reply = k .reply; stores = k .stores; words = k .words; listed = refl }
-  same-performed (Remove key allowance) q k = record { reply = k .reply; stores = k .stores; words = k .words; listed = refl }
-  same-performed (Mend allowance) q k = record { reply = k .reply; stores = k .stores; words = k .words; listed = refl }
-  same-performed ListCall q k = absurd q
+  answered-performed (Format D S allowance) q k = record { reply = k .reply; stores = k .stores; words = k .words; listed = refl }
+  answered-performed (Get key) q k = record { reply = k .reply; stores = k .stores; words = k .words; listed = refl }
+  answered-performed (Put key value allowance) q k = record { reply = k .reply; stores = k .stores; words = k .words; listed = refl }
+  answered-performed (Remove key allowance) q k = record { reply = k .reply; stores = k .stores; words = k .words; listed = refl }
+  answered-performed (Mend allowance) q k = record { reply = k .reply; stores = k .stores; words = k .words; listed = refl }
+  answered-performed ListCall q k = absurd q
 
   -- The call that was given is the one that was answered.
   pub performed : {given call : Call} → given ≡ call → NoList call → Answered (step a 0 call) r b → Performed given a l r b l
-  performed {given} {call} e q k = rw e (same-performed call q k)
+  performed {given} {call} e q k = rw e (answered-performed call q k)

@@ -1,2 +1,3 @@
 -- From the promise of a call to what is told of it.
 pub mod Tellings
+pub mod Performs

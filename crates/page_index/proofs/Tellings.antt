@@ -14,7 +14,7 @@ use Rattle.page_index.specs.declared.PageIndexReply.{PageIndexReply}
 use Rattle.page_index.specs.Told.{Tells, Told, ToldList, codeOf, valueOf}
 
 -- An answer that says the same says so in numbers too.
-tells-same : {s t : Said} {m n : ℕ} {r : PageIndexReply} → Tells s m r → s ≡ t → m ≡ n → Tells t n r
+pub tells-same : {s t : Said} {m n : ℕ} {r : PageIndexReply} → Tells s m r → s ≡ t → m ≡ n → Tells t n r
 tells-same k p q = record { code = k .code ∙ ap codeOf p; count = k .count ∙ q; value = k .value ∙ ap valueOf p }
 
 module _ {answer : Answer} {r : PageIndexReply} (k : Tells (saidBy (answer .reply)) (answer .stores) r) where

@@ -12,6 +12,7 @@ pub mod Halving
 pub mod Split
 pub mod Put
 pub mod Refusals
+pub mod Said
 pub mod Bound
 pub mod Full
 pub mod Range

@@ -5,7 +5,7 @@ pub mod bucket;
 pub mod choice;
 pub mod copy;
 pub mod listing;
-pub mod live;
+mod live;
 pub mod probe;
 
 pub const SEGMENT_WORDS: usize = 128;

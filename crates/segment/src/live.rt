@@ -12,7 +12,7 @@ const BUCKET_BITS: u64 = 4;
 // The key is live in a segment of this local depth, whose block is that of `block_key`: its first
 // directory bits, as many as the local depth, are those of `block_key`. The compiler takes the mask
 // out of the loops that call this.
-pub fn is_live(local_depth: u32, block_key: u64, key: u64) -> bool
+pub(crate) fn is_live(local_depth: u32, block_key: u64, key: u64) -> bool
     requires { ⌜ «local_depth» ≤ 12 ⌝ }
     ensures { λ r. ⌜ r ≡ live «local_depth» (index «block_key» «local_depth») key ⌝ }
 {
@@ -22,7 +22,7 @@ pub fn is_live(local_depth: u32, block_key: u64, key: u64) -> bool
 
 // A split of that segment moves a record with the key: it is live, and the directory bit whose
 // number is the local depth is 1.
-pub fn moves(local_depth: u32, block_key: u64, key: u64) -> bool
+pub(crate) fn moves(local_depth: u32, block_key: u64, key: u64) -> bool
     requires { ⌜ «local_depth» ≤ 12 ⌝ }
     ensures { λ r. ⌜ ((a : List ℕ) (j : ℕ) → keyAt a 0 j ≡ key → r ≡ moves a 0 «local_depth» (index «block_key» «local_depth») j) ⌝ }
 {

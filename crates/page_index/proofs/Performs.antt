@@ -1,0 +1,54 @@
+-- Each C function's promise is a performed call, so a chain of C calls is a chain of performed calls, and the history rule over
+-- those (`performed-history-rule` of `history`) speaks of it.
+-- Assumes nothing.
+use Prim.Native.Nat.{ℕ}
+use mathlib.Core.Path.{_≡_, refl, sym}
+use mathlib.Core.List.{List}
+use lib.ListN.{length}
+use Rattle.stores.specs.Plan.{Outcome}
+use Rattle.rules.specs.declared.Answer.{Answer}
+use Rattle.rules.specs.declared.Call.{Call}
+use Rattle.rules.specs.declared.Call.the-variants.{List as ListCall}
+use Rattle.rules.specs.Replies.{Said, saidBy}
+use Rattle.rules.specs.Step.{step, Performed}
+use Rattle.rules.proofs.Said.{Sayable, step-sayable}
+use Rattle.index.specs.Answered.{Answered}
+use Rattle.index.proofs.Performs.{NoList, answered-performed}
+use Rattle.page_index.specs.declared.PageIndexReply.{PageIndexReply}
+use Rattle.page_index.specs.Told.{Tells, Told, ToldList}
+use Rattle.page_index.proofs.Tellings.{tells-same}
+
+-- A call was performed, and its answer told in the three numbers of r.
+pub record ToldPerformed (call : Call) (a l : List ℕ) (r : PageIndexReply) (a′ l′ : List ℕ) : Type 0 where
+  pub answer : Answer
+  pub performed : Performed call a l answer a′ l′
+  pub tells : Tells (saidBy (answer .reply)) (answer .stores) r
+
+-- The answer that an outcome's reply and count make, where a reply of the code says so.
+abbrev answer-of : (o : Outcome Said) → Sayable (o .reply) → Answer
+answer-of o s = record { reply = s .reply; stores = o .made }
+
+answer-tells : (o : Outcome Said) (s : Sayable (o .reply)) (r : PageIndexReply) → Tells (o .reply) (o .made) r
+    → Tells (saidBy (s .reply)) (o .made) r
+answer-tells o s r k = tells-same k (sym (s .says)) refl
+
+module _ (a l : List ℕ) (r : PageIndexReply) where
+  -- What `page_index_format`, `_get`, `_put`, `_remove` and `_mend` promise, with any list array.
+  pub told-performed : (call : Call) → NoList call → (a′ : List ℕ) → Told (step a 0 call) r a′ → ToldPerformed call a l r a′ l
+  told-performed call q a′ t =
+      let s = step-sayable a 0 call in
+      record {
+        answer = answer-of (step a 0 call) s;
+        performed = answered-performed a l (answer-of (step a 0 call) s) a′ call q (record { reply = s .says; stores = refl; words = t .words });
+        tells = answer-tells (step a 0 call) s r (t .answer);
+      }
+
+  -- What `page_index_list` promises.
+  pub list-told-performed : (l′ : List ℕ) → ToldList a l r l′ → ToldPerformed ListCall a l r a l′
+  list-told-performed l′ t =
+      let s = step-sayable a (length l) ListCall in
+      record {
+        answer = answer-of (step a (length l) ListCall) s;
+        performed = record { reply = s .says; stores = refl; words = t .told .words; listed = t .listed };
+        tells = answer-tells (step a (length l) ListCall) s r (t .told .answer);
+      }
