@@ -2,9 +2,9 @@
 // that share their first twelve directory bits, and one that parts from them at the last. Then an
 // index of the cabinet's size, D = 12, S = 4,032, filled with running image numbers to the first
 // refusal, in which every page is looked up again.
-use rules::Answer;
-use rules::Reply;
-use rules::refusal_number;
+use replies::Answer;
+use replies::Reply;
+use replies::refusal_number;
 use std::num::wrapping_add_u64;
 ghost use mathlib.Core.Path.{_≡_};
 ghost use lib.ListN.{length};

@@ -10,9 +10,9 @@ use lib.ListN.{length, replicate, take, drop, drop-of-length-le}
 use lib.Seq.{drop-length}
 use Rattle.stores.specs.Written.{Written}
 use Rattle.stores.proofs.Written.{written-none, written-within, written-append}
-use Rattle.rules.specs.declared.Answer.{Answer}
+use Rattle.replies.specs.declared.Answer.{Answer}
 use Rattle.rules.specs.declared.Call.{Call}
-use Rattle.rules.specs.Replies.{saidBy}
+use Rattle.replies.specs.Replies.{saidBy}
 use Rattle.rules.specs.Step.{Performed}
 use Rattle.desk_text.specs.Parts.{linesOf}
 use Rattle.desk_text.specs.Line.{letterOf, callOf}

@@ -8,7 +8,7 @@ use lib.ListN.{length, replicate}
 use Rattle.stores.specs.Lists.{pick}
 use Rattle.stores.specs.Plan.{Outcome}
 use Rattle.rules.specs.declared.Call.{Call}
-use Rattle.rules.specs.Replies.{Said}
+use Rattle.replies.specs.Replies.{Said}
 use Rattle.rules.specs.Step.{step}
 use Rattle.desk_text.specs.Parts.{linesOf}
 use Rattle.desk_text.specs.Line.{letterOf, callOf}

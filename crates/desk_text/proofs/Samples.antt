@@ -8,7 +8,7 @@ use mathlib.Core.Option.{Option, none, some}
 use lib.Dec.{eqb}
 use Rattle.rules.specs.declared.Call.{Call}
 use Rattle.rules.specs.declared.Call.the-variants.{Format, Get, Put, Remove, Mend, List as ListCall}
-use Rattle.rules.specs.Replies.{Said, done, absent, refused}
+use Rattle.replies.specs.Replies.{Said, done, absent, refused}
 use Rattle.desk_text.specs.Parts.{startedBy, parts, nonempty, linesOf, fieldsOf}
 use Rattle.desk_text.specs.Number.{isDigit, allDigits, valueFrom, number, spelled, decimal}
 use Rattle.desk_text.specs.Line.{both, numbersOf, allowed, callWith, calledWith, callOfFields, callOf}

@@ -7,12 +7,12 @@ use native.Mathlib.Omega.{arith}
 use lib.ListN.{length, length-append}
 use denote.Enum.Declared
 use types.Run.{OneOf, miss}
-use Rattle.rules.proofs.Reply
-use Rattle.rules.specs.declared.Refusal.{Refusal}
-use Rattle.rules.specs.declared.Refusal.the-variants.{NoStore, NoKey, Broken, Unmended, TooDeep, NoSegment, CutOff, BadShape, TooShort, ShortList}
-use Rattle.rules.specs.declared.Reply.{Reply}
-use Rattle.rules.specs.declared.Reply.the-variants.{Done, Value, Absent, Refused}
-use Rattle.rules.specs.Replies.{numberOf, saidBy}
+use Rattle.replies.proofs.Reply
+use Rattle.replies.specs.declared.Refusal.{Refusal}
+use Rattle.replies.specs.declared.Refusal.the-variants.{NoStore, NoKey, Broken, Unmended, TooDeep, NoSegment, CutOff, BadShape, TooShort, ShortList}
+use Rattle.replies.specs.declared.Reply.{Reply}
+use Rattle.replies.specs.declared.Reply.the-variants.{Done, Value, Absent, Refused}
+use Rattle.replies.specs.Replies.{numberOf, saidBy}
 use Rattle.desk_text.specs.Parts.{tab, lineFeed}
 use Rattle.desk_text.specs.Number.{decimal, spelled}
 use Rattle.desk_text.specs.Output.{replyText, valuesText, endText, answerLine, lineRoom}
@@ -43,7 +43,7 @@ pub end-value : (v : ℕ) → endText (saidBy (Value v)) ≡ (tab ∷ decimal v)
 unfolding valuesText
 end-value v = rw (append-nil (decimal v))
 
-pub end-plain : (r : Reply) → OneOf (0 ∷ 2 ∷ 3 ∷ []) (denote.Enum.Declared.tagOf Rattle.rules.proofs.Reply.the-type r)
+pub end-plain : (r : Reply) → OneOf (0 ∷ 2 ∷ 3 ∷ []) (denote.Enum.Declared.tagOf Rattle.replies.proofs.Reply.the-type r)
     → endText (saidBy r) ≡ lineFeed ∷ []
 unfolding valuesText
 end-plain Done t = refl

@@ -2,7 +2,7 @@
 -- Assumes nothing.
 use Prim.Native.Nat.{ℕ}
 use mathlib.Core.List.{List, [], _∷_, _++_}
-use Rattle.rules.specs.Replies.{Said, done, absent, refused}
+use Rattle.replies.specs.Replies.{Said, done, absent, refused}
 use Rattle.desk_text.specs.Parts.{tab, lineFeed}
 use Rattle.desk_text.specs.Number.{decimal}
 

@@ -2,14 +2,14 @@
 use crate::LINE_FEED;
 use crate::TAB;
 use crate::number::write_decimal;
-use rules::Answer;
-use rules::Reply;
-use rules::refusal_number;
+use replies::Answer;
+use replies::Reply;
+use replies::refusal_number;
 ghost use Prim.Native.Nat.{_+_, _≤_, _<_};
 ghost use mathlib.Core.List.{[], _∷_};
 ghost use lib.ListN.{length};
 ghost use Rattle.stores.specs.Written.{Written};
-ghost use Rattle.rules.specs.Replies.{saidBy};
+ghost use Rattle.replies.specs.Replies.{saidBy};
 ghost use Rattle.desk_text.specs.Parts.{tab, lineFeed};
 ghost use Rattle.desk_text.specs.Number.{decimal};
 ghost use Rattle.desk_text.specs.Output.{replyText, headText, endText, answerLine, otherLine, tooLongLine, lineRoom};

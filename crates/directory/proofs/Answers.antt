@@ -7,10 +7,10 @@ use mathlib.Core.Option.{none, some}
 use Prim.Native.Nat.{ℕ}
 use native.Mathlib.Omega.{arith}
 use Rattle.stores.specs.Lists.{pick}
-use Rattle.rules.specs.declared.Refusal.the-variants.{Broken as BrokenRefusal, Unmended as UnmendedRefusal}
+use Rattle.replies.specs.declared.Refusal.the-variants.{Broken as BrokenRefusal, Unmended as UnmendedRefusal}
 use Rattle.rules.specs.Layout.{validHeader, depth, maxDepth, segments, segmentOf, localDepth}
 use Rattle.rules.specs.Scan.{inRange, leadersValid, entriesAgree}
-use Rattle.rules.specs.Replies.{done, refused, unless}
+use Rattle.replies.specs.Replies.{done, refused, unless}
 use Rattle.rules.specs.Put.{directoryTests}
 use Rattle.directory.specs.declared.header.Header.{Header}
 use Rattle.directory.specs.declared.header.HeaderRead.{HeaderRead}

@@ -12,11 +12,11 @@ use borrow.Author.Tests.{ltb-true, ltb-false, eq-eqb}
 use lib.Dec.{ltb, eqb}
 use Rattle.stores.specs.Lists.{pick, allBelow}
 use Rattle.stores.proofs.Tests.{cases, and-true}
-use Rattle.rules.specs.declared.Refusal.the-variants.{Broken as BrokenRefusal, Unmended as UnmendedRefusal}
+use Rattle.replies.specs.declared.Refusal.the-variants.{Broken as BrokenRefusal, Unmended as UnmendedRefusal}
 use Rattle.rules.specs.Layout.{depth, segments, entryAt, localDepth}
 use Rattle.rules.specs.Keys.{width}
 use Rattle.rules.specs.Scan.{validLeader, leader, leadingEntry, leadersValid, entriesAgree}
-use Rattle.rules.specs.Replies.{unless}
+use Rattle.replies.specs.Replies.{unless}
 use Rattle.rules.specs.Put.{directoryTests}
 use Rattle.rules.proofs.Keys.{width-pos}
 use Rattle.rules.proofs.Scan.{leader-zero, led, next-leads, valid-aligned, valid-at}

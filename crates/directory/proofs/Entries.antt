@@ -8,12 +8,12 @@ use native.Mathlib.Nat.{div-add-mod', mul-comm}
 use native.Mathlib.Omega.{arith}
 use lib.Bits.{bitAnd, and-mask}
 use Rattle.stores.specs.Store.{word}
-use Rattle.rules.specs.declared.Refusal.the-variants.{Broken}
+use Rattle.replies.specs.declared.Refusal.the-variants.{Broken}
 use Rattle.rules.specs.Layout.{depth, entryAddress, entryAt, segmentOf, localDepth}
 use Rattle.rules.specs.Keys.{width, blockStart}
 use Rattle.rules.specs.Scan.{inRange}
 use Rattle.rules.proofs.Keys.{width-pow, blockStart-bits, blockBits-shift}
-use Rattle.rules.specs.Replies.{done, refuse}
+use Rattle.replies.specs.Replies.{done, refuse}
 use Rattle.directory.specs.declared.header.Header.{Header}
 use Rattle.directory.specs.Headers.{Describes}
 use Rattle.directory.specs.Entries.{entryOf}

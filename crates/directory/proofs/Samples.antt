@@ -8,11 +8,11 @@ use mathlib.Core.Option.{Option, none, some}
 use lib.ListN.{replicate}
 use Rattle.stores.specs.Lists.{each}
 use Rattle.stores.specs.Store.{store}
-use Rattle.rules.specs.declared.Refusal.{Refusal}
+use Rattle.replies.specs.declared.Refusal.{Refusal}
 use Rattle.rules.specs.Layout.{depthIn, maxDepthIn, segmentsIn, markIn, validShape, validHeader, wordsFor, segmentOf, localDepth}
 use Rattle.rules.specs.Keys.{width}
 use Rattle.rules.specs.Scan.{inRange, validLeader}
-use Rattle.rules.specs.Replies.{Said, done, refused, numberOf}
+use Rattle.replies.specs.Replies.{Said, done, refused, numberOf}
 use Rattle.directory.specs.declared.header.HeaderRead.the-variants.{NotValid}
 use Rattle.directory.specs.declared.entry.Entry.the-variants.{At, Broken as BrokenEntry}
 use Rattle.directory.specs.declared.scan.Verdict.the-variants.{Broken, Unmended}

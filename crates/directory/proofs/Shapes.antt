@@ -10,9 +10,9 @@ use lib.Dec.{leb}
 use lib.ListN.{length}
 use lib.Pow.{pow-mono, pow-pos}
 use Rattle.stores.proofs.Tests.{and-left, and-right}
-use Rattle.rules.specs.declared.Refusal.the-variants.{NoStore}
+use Rattle.replies.specs.declared.Refusal.the-variants.{NoStore}
 use Rattle.rules.specs.Layout.{validHeader, validShape, depth, maxDepth, segments, wordsFor, markIn}
-use Rattle.rules.specs.Replies.{done, refuse}
+use Rattle.replies.specs.Replies.{done, refuse}
 use Rattle.rules.proofs.Words.{ValidHeader, valid-header, small, directories-below}
 use Rattle.directory.specs.declared.header.Header.{Header}
 use Rattle.directory.specs.Headers.{headerOf, Describes}

@@ -3,10 +3,10 @@
 use Prim.Native.Nat.{ℕ}
 use mathlib.Core.List.{List, [], _∷_}
 use Rattle.stores.specs.Lists.{pick}
-use Rattle.rules.specs.declared.Refusal.the-variants.{Broken as BrokenRefusal}
+use Rattle.replies.specs.declared.Refusal.the-variants.{Broken as BrokenRefusal}
 use Rattle.rules.specs.Layout.{depth, segments, entryAt, segmentOf, localDepth}
 use Rattle.rules.specs.Scan.{inRange}
-use Rattle.rules.specs.Replies.{Said, done, refuse}
+use Rattle.replies.specs.Replies.{Said, done, refuse}
 use Rattle.directory.specs.declared.entry.Entry.{Entry}
 use Rattle.directory.specs.declared.entry.Entry.the-variants.{At, Broken}
 

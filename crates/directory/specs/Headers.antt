@@ -5,9 +5,9 @@ use mathlib.Core.Path.{_≡_}
 use mathlib.Core.Bool.{true}
 use mathlib.Core.List.{List, [], _∷_}
 use Rattle.stores.specs.Lists.{pick}
-use Rattle.rules.specs.declared.Refusal.the-variants.{NoStore}
+use Rattle.replies.specs.declared.Refusal.the-variants.{NoStore}
 use Rattle.rules.specs.Layout.{validHeader, depth, maxDepth, segments}
-use Rattle.rules.specs.Replies.{Said, done, refuse}
+use Rattle.replies.specs.Replies.{Said, done, refuse}
 use Rattle.directory.specs.declared.header.Header.{Header}
 use Rattle.directory.specs.declared.header.HeaderRead.{HeaderRead}
 use Rattle.directory.specs.declared.header.HeaderRead.the-variants.{Valid, NotValid}

@@ -5,8 +5,8 @@ use mathlib.Core.Bool.{Bool, false}
 use mathlib.Core.Option.{Option, none, some}
 use lib.Dec.{ltb, eqb}
 use Rattle.stores.specs.Lists.{pick}
-use Rattle.rules.specs.declared.Refusal.{Refusal}
-use Rattle.rules.specs.declared.Refusal.the-variants.{Broken as BrokenRefusal, Unmended as UnmendedRefusal}
+use Rattle.replies.specs.declared.Refusal.{Refusal}
+use Rattle.replies.specs.declared.Refusal.the-variants.{Broken as BrokenRefusal, Unmended as UnmendedRefusal}
 use Rattle.rules.specs.Layout.{localDepth}
 use Rattle.rules.specs.Keys.{width}
 use Rattle.rules.specs.Scan.{validLeader}

@@ -15,25 +15,24 @@ use Rattle.stores.specs.Store.{store, apply}
 use Rattle.stores.specs.Plan.{Plan, reply-only}
 use Rattle.stores.proofs.Tests.{cases, or-cases}
 use Rattle.stores.proofs.Stores.{exec-all, exec-not-made}
-use Rattle.rules.specs.declared.Refusal.{Refusal}
-use Rattle.rules.specs.declared.Refusal.the-variants.{NoKey}
+use Rattle.replies.specs.declared.Refusal.{Refusal}
+use Rattle.replies.specs.declared.Refusal.the-variants.{NoKey}
 use Rattle.rules.specs.Layout.{segmentAddress, segmentOf, entryAt, keyAddress}
 use Rattle.rules.specs.Keys.{index}
 use Rattle.rules.specs.Slots.{hit}
-use Rattle.rules.specs.Replies.{Said, done, absent, refused, refuse, unless, tested, replied}
+use Rattle.replies.specs.Replies.{Said, done, absent, refused, refuse, unless, tested, replied, changed, isDone, isRefusal}
 use Rattle.rules.specs.Format.{formatTests, format}
 use Rattle.rules.specs.Get.{keySegment, keyTests, getTests, get}
 use Rattle.rules.specs.Put.{putTests, put}
 use Rattle.rules.specs.Remove.{removeTests, clearedAt, remove}
 use Rattle.rules.specs.Mend.{mending, mend}
 use Rattle.rules.specs.Listing.{records, listTests, list}
-use Rattle.rules.specs.Step.{changed}
 use Rattle.rules.proofs.Words.{header-valid}
 use Rattle.rules.proofs.Keys.{index-lt}
-use Rattle.rules.proofs.Outcomes.{Complete, CutShort, changed-cases, refused-not-done, refused-inj, tested-none, tested-some, replied-none}
+use Rattle.replies.proofs.Outcomes.{Complete, CutShort, changed-cases, refused-not-done, refused-inj, tested-none, tested-some, replied-none}
 use Rattle.rules.proofs.Put.{put-refused}
-use Rattle.history.specs.Map.{Map, formats, gets, puts, removes, mends, lists, isDone, fed, updated, mapSays}
-use Rattle.history.specs.Run.{Point, isRefusal, isRecovery, mayFollow, claimed}
+use Rattle.runs.specs.Map.{Map, formats, gets, puts, removes, mends, keeps, fed, updated, mapSays}
+use Rattle.runs.specs.Run.{Point, isRecovery, mayFollow, claimed}
 use Rattle.history.specs.Further.{saysDamage}
 use Rattle.history.proofs.Holds.{holds-found}
 use Rattle.history.proofs.Invariant.{Inv, Recovered, live-own, block-changed, block-recovered, shape-valid}
@@ -107,15 +106,15 @@ list-says {a = a} inv same room =
     inr (rw (header-valid (shape-valid (inv .shape)), inv-directory-tests inv _ same, t)))
     (cases (leb (2 * length (records a)) room))
 
-pub list-kept : (p : Point) → Good p → p .needsRecovery ≡ false → (room : ℕ) → CallKept p lists (list (p .array) room) (p .array)
+pub list-kept : (p : Point) → Good p → p .needsRecovery ≡ false → (room : ℕ) → CallKept p keeps (list (p .array) room) (p .array)
 unfolding fed isRecovery
 list-kept p good calm room =
     let w = good .whole calm in
     ⊎-elim
     (λ (e : list (p .array) room ≡ done (length (records (p .array)) ∷ [])).
-    nothing-changed p lists (list (p .array) room) good refl (rw e) refl Prim.tt (rw e))
+    nothing-changed p keeps (list (p .array) room) good refl (rw e) refl Prim.tt (rw e))
     (λ (e : list (p .array) room ≡ refused 10).
-    nothing-changed p lists (list (p .array) room) good refl (rw e) refl Prim.tt (rw e))
+    nothing-changed p keeps (list (p .array) room) good refl (rw e) refl Prim.tt (rw e))
     (list-says (w .inv) (w .recovered) room)
 
 -- ---- Put and remove

@@ -20,7 +20,7 @@ use Rattle.rules.specs.Slots.{hit}
 use Rattle.rules.proofs.Words.{Within, within-inside, key-within, value-within, entry-inside}
 use Rattle.rules.proofs.Keys.{live-nonzero, live-empty, window-lt}
 use Rattle.rules.proofs.Blocks.{bitsAt}
-use Rattle.history.specs.Map.{Map, updated}
+use Rattle.runs.specs.Map.{Map, updated}
 use Rattle.history.proofs.Holds.{Holds, hit-none, hit-window, hit-key, key-after-value, key-after-key, holds-new-value, holds-new-key, holds-removed, holds-other-value, holds-other-key}
 use Rattle.history.proofs.Invariant.{Inv, LiveAt, BlockChanged, baseAt}
 

@@ -19,7 +19,7 @@ use Rattle.rules.specs.Keys.{live, window}
 use Rattle.rules.specs.Split.{moves, copySlot, copying}
 use Rattle.rules.proofs.Words.{entry-inside, Within, within-inside, key-inside, value-inside}
 use Rattle.rules.proofs.Keys.{live-nonzero, live-whole, live-split, window-lt}
-use Rattle.history.specs.Map.{Map}
+use Rattle.runs.specs.Map.{Map}
 use Rattle.history.proofs.Holds.{Holds, holds-same}
 use Rattle.history.proofs.Invariant.{Inv, Recovered, baseAt, SegmentSame, Framed, inv-framed}
 use Rattle.history.proofs.Prefixes.{Kept, Always, always-whole, exec-elsewhere, apply-elsewhere}

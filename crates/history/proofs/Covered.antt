@@ -7,14 +7,14 @@ use mathlib.Core.Logic.{_⊎_, inl, inr}
 use Prim.Native.Nat.{ℕ, suc}
 use native.Mathlib.Omega.{arith}
 use lib.ListN.{length}
-use Rattle.rules.specs.Replies.{done, refused}
+use Rattle.replies.specs.Replies.{done, refused}
 use Rattle.rules.specs.Listing.{Record, Listed, records, list}
 use Rattle.rules.specs.Mend.{mending, mend}
 use Rattle.rules.specs.Get.{get}
-use Rattle.rules.specs.Step.{step}
-use Rattle.rules.proofs.Outcomes.{changed-complete, refused-not-done, tested-none}
-use Rattle.history.specs.Map.{mapSays}
-use Rattle.history.specs.Run.{Point, claimed}
+use Rattle.rules.specs.Step.{effect, step}
+use Rattle.replies.proofs.Outcomes.{changed-complete, refused-not-done, tested-none}
+use Rattle.runs.specs.Map.{mapSays}
+use Rattle.runs.specs.Run.{Point, claimed}
 use Rattle.history.specs.History.{CoveredPoint}
 use Rattle.history.specs.Listing.{ListsMap}
 use Rattle.history.specs.Further.{MendSuffices, ListIsMap}
@@ -30,7 +30,7 @@ pub lookup-says : (p : Point) → CoveredPoint p → (key : ℕ) → claimed key
 lookup-says p c key k = get-is-map p (covered-good p c) key k
 
 pub mend-suffices : MendSuffices
-unfolding step mend
+unfolding effect step mend
 mend-suffices p c allowance room enough =
     let inv = covered-good p c .kept .inv in
     rw (inv-mend-tests inv, tested-none)
@@ -62,7 +62,7 @@ list-left p c calm l l′ count says left =
     counted (inr e) = absurd (refused-not-done 10 (count ∷ []) (sym e ∙ says))
 
 pub list-is-map : ListIsMap
-unfolding step
+unfolding effect step
 list-is-map p c calm l answer a′ l′ count performed says =
     let said : list (p .array) (length l) ≡ done (count ∷ []) = sym (performed .reply) ∙ says in
     list-left p c calm l l′ count said (rw said at (performed .listed))

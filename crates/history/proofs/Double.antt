@@ -13,7 +13,7 @@ use Rattle.rules.specs.Split.{doubling}
 use Rattle.rules.proofs.Words.{entry-to, within-inside}
 use Rattle.rules.proofs.Keys.{bits-doubled}
 use Rattle.rules.proofs.Blocks.{doubledDirectory, doubled-blocks, bitsAt}
-use Rattle.history.specs.Map.{Map}
+use Rattle.runs.specs.Map.{Map}
 use Rattle.history.proofs.Holds.{Holds}
 use Rattle.history.proofs.Invariant.{Shape, Directory, Inv, Recovered, LiveAt, baseAt, SegmentSame, Framed, inv-framed, recovered-lookups, shape-depth, shape-maxDepth, shape-segments, shape-valid, same-key, same-holds}
 use Rattle.history.proofs.Prefixes.{Kept, Always, always-whole, always-append, always-one, exec-elsewhere}

@@ -16,18 +16,18 @@ use Rattle.stores.specs.Store.{Store, word, store, apply, writes}
 use Rattle.stores.proofs.Tests.{and-left, and-right, or-right}
 use Rattle.stores.proofs.Lists.{every-each, any-true}
 use Rattle.stores.proofs.Stores.{apply-append, length-apply, word-apply, word-set-same, word-set-other, writes-each}
-use Rattle.rules.specs.declared.Refusal.the-variants.{BadShape, TooShort}
+use Rattle.replies.specs.declared.Refusal.the-variants.{BadShape, TooShort}
 use Rattle.rules.specs.declared.Call.the-variants.{Format}
 use Rattle.rules.specs.Layout.{header, wordsFor, validShape, entryAddress, segmentOf, localDepth, segmentAddress, keyAddress, keyAt}
 use Rattle.rules.specs.Keys.{window}
-use Rattle.rules.specs.Replies.{done}
+use Rattle.replies.specs.Replies.{done, changed}
 use Rattle.rules.specs.Format.{formatTests, formatStores, format}
-use Rattle.rules.specs.Step.{changed, step}
-use Rattle.rules.proofs.Outcomes.{Complete, CutShort, changed-cases, refused-not-done, tests-passed, tested-none}
+use Rattle.rules.specs.Step.{effect, step}
+use Rattle.replies.proofs.Outcomes.{Complete, CutShort, changed-cases, refused-not-done, tests-passed, tested-none}
 use Rattle.rules.proofs.Put.{unless-none}
 use Rattle.rules.proofs.Words.{within-inside, key-within}
 use Rattle.rules.proofs.Keys.{live-nonzero, window-lt}
-use Rattle.history.specs.Map.{empty}
+use Rattle.runs.specs.Map.{empty}
 use Rattle.history.specs.History.{Formatted}
 use Rattle.history.proofs.Holds.{Holds}
 use Rattle.history.proofs.Invariant.{Directory, Inv, Recovered, LiveAt, baseAt, recovered-lookups}
@@ -41,7 +41,7 @@ record FormatDone (before : List ℕ) (D S : ℕ) (a : List ℕ) : Type 0 where
 
 format-done : (before : List ℕ) (D S allowance : ℕ) → (step before 0 (Format D S allowance)) .reply ≡ done []
     → FormatDone before D S ((step before 0 (Format D S allowance)) .after)
-unfolding step format formatTests
+unfolding effect step format formatTests
 format-done before D S allowance e =
     ⊎-elim
     (λ (w : Complete (format before D S) before (changed allowance (format before D S) before)).

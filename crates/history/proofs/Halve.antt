@@ -8,7 +8,7 @@ use Rattle.stores.proofs.Stores.{apply-append}
 use Rattle.rules.specs.Layout.{segmentOf, localDepth}
 use Rattle.rules.specs.Split.{halvingOf}
 use Rattle.rules.proofs.Blocks.{halvedDirectory}
-use Rattle.history.specs.Map.{Map}
+use Rattle.runs.specs.Map.{Map}
 use Rattle.history.proofs.Invariant.{Inv, Recovered, shape-depth, shape-maxDepth}
 use Rattle.history.proofs.Prefixes.{Kept, Always, always-append}
 use Rattle.history.proofs.Copy.{copied, copies-kept, copies}

@@ -17,7 +17,7 @@ use Rattle.rules.specs.Layout.{keyAddress, valueAddress, keyAt, valueAt}
 use Rattle.rules.specs.Keys.{window}
 use Rattle.rules.specs.Slots.{hit}
 use Rattle.rules.specs.Get.{valueAtHit}
-use Rattle.history.specs.Map.{mapSays}
+use Rattle.runs.specs.Map.{mapSays}
 
 -- Exactly one slot of the key's probe window, in the segment at `base`, has the key, and it has the value v.
 pub record HoldsAt (v : ℕ) (a : List ℕ) (base key : ℕ) : Type 0 where

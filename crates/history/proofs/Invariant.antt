@@ -19,7 +19,7 @@ use Rattle.rules.specs.Keys.{index, blockBits, blockStart, live, window}
 use Rattle.rules.proofs.Words.{ValidHeader, header-depth, header-maxDepth, header-segments, header-mark, Within, key-within, value-within}
 use Rattle.rules.proofs.Keys.{index-lt, index-shift, live-nonzero, live-index, live-true, window-lt}
 use Rattle.rules.proofs.Blocks.{bitsAt, SameBlock, Blocks}
-use Rattle.history.specs.Map.{Map}
+use Rattle.runs.specs.Map.{Map}
 use Rattle.history.proofs.Holds.{Holds, holds-same}
 
 -- ---- The facts

@@ -19,7 +19,7 @@ use Rattle.rules.specs.Keys.{index, width, blockBits, blockStart, live}
 use Rattle.rules.specs.Listing.{Record, liveRecord, blockRecords, records}
 use Rattle.rules.proofs.Keys.{index-lt, index-shift, width-pos, blockStart-bits, blockStart-le, block-same, blockStart-aligned, blockStart-self, live-index, live-true, window-lt}
 use Rattle.rules.proofs.Blocks.{bitsAt}
-use Rattle.history.specs.Map.{Map}
+use Rattle.runs.specs.Map.{Map}
 use Rattle.history.specs.Listing.{occurrences, ListsMap}
 use Rattle.history.proofs.Holds.{HoldsAt, holds-value}
 use Rattle.history.proofs.Invariant.{Inv, Recovered, LiveAt, baseAt, shape-depth, shape-maxDepth, live-block}

@@ -18,7 +18,7 @@ use Rattle.stores.proofs.Stores.{length-apply, word-elsewhere, word-apply, writ
 use Rattle.rules.specs.Layout.{wordsFor, entryAddress, entryAt, segmentOf, localDepth}
 use Rattle.rules.specs.Mend.{mendEntry, mending}
 use Rattle.rules.proofs.Words.{entry-inside, within-inside, directories-below}
-use Rattle.history.specs.Map.{Map}
+use Rattle.runs.specs.Map.{Map}
 use Rattle.history.proofs.Invariant.{Inv, LookupAgrees, Recovered, SegmentSame, shape-depth, shape-kept, live-above, same-holds, same-key}
 use Rattle.history.proofs.Recover.{inv-leading}
 

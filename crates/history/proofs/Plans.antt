@@ -15,12 +15,11 @@ use Rattle.stores.specs.Store.{Store, apply, exec}
 use Rattle.stores.specs.Plan.{Plan, reply-only, _then_}
 use Rattle.stores.proofs.Tests.{cases}
 use Rattle.stores.proofs.Stores.{apply-append, exec-append, exec-all, exec-not-made}
-use Rattle.rules.specs.declared.Refusal.{Refusal}
-use Rattle.rules.specs.Replies.{Said, refused, refuse}
-use Rattle.rules.specs.Step.{changed}
-use Rattle.rules.proofs.Outcomes.{Complete, CutShort, changed-cases}
-use Rattle.history.specs.Map.{Map, View, isDone, fed}
-use Rattle.history.specs.Run.{Point, isRefusal, isRecovery, recoveryAfter, advance, GetAgrees}
+use Rattle.replies.specs.declared.Refusal.{Refusal}
+use Rattle.replies.specs.Replies.{Said, refused, refuse, changed, isDone, isRefusal}
+use Rattle.replies.proofs.Outcomes.{Complete, CutShort, changed-cases}
+use Rattle.runs.specs.Map.{Map, View, fed}
+use Rattle.runs.specs.Run.{Point, isRecovery, recoveryAfter, advance, GetAgrees}
 use Rattle.history.specs.Further.{saysDamage}
 use Rattle.history.proofs.Prefixes.{Kept, Whole, whole-kept, Always}
 
@@ -77,19 +76,19 @@ pub record Good (p : Point) : Type 0 where
 
 -- A call with this view, reply and array afterwards leaves a good point, and its reply is right.
 pub record CallKept (p : Point) (view : View) (said : Said) (after : List ℕ) : Type 0 where
-  pub good : Good (advance p view said after)
+  pub good : Good (advance true p view said after)
   pub agrees : GetAgrees view said (p .map)
   pub no-damage : saysDamage said ≡ false
 
 -- A call that changes nothing, and neither begins nor ends the need of recovery.
 recovery-same : (waits : Bool) (view : View) (said : Said) → isRefusal 7 said ≡ false → isRecovery view said ≡ false
-    → recoveryAfter waits view said ≡ waits
+    → recoveryAfter true waits view said ≡ waits
 unfolding recoveryAfter
 recovery-same true view said c r = rw (c, r)
 recovery-same false view said c r = rw c
 
 -- From a cut on, recovery is needed.
-recovery-needed : (waits : Bool) (view : View) → recoveryAfter waits view (refused 7) ≡ true
+recovery-needed : (waits : Bool) (view : View) → recoveryAfter true waits view (refused 7) ≡ true
 unfolding recoveryAfter
 recovery-needed waits view = refl
 

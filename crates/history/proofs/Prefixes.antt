@@ -16,7 +16,7 @@ use Rattle.stores.specs.Store.{Store, word, store, apply, exec, Every}
 use Rattle.stores.proofs.Tests.{cases}
 use Rattle.stores.proofs.Lists.{each-zero, each-suc, length-each-ones, every-take, every-each, every-map}
 use Rattle.stores.proofs.Stores.{exec-all, exec-none, exec-not-made, take-append, exec-append, word-elsewhere, read-each}
-use Rattle.history.specs.Map.{Map}
+use Rattle.runs.specs.Map.{Map}
 use Rattle.history.proofs.Invariant.{Inv, Recovered}
 
 -- ---- The invariant with the depth and the directory left open

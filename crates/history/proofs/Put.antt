@@ -13,19 +13,19 @@ use Rattle.stores.specs.Store.{store, apply, exec}
 use Rattle.stores.specs.Plan.{Plan}
 use Rattle.stores.proofs.Lists.{first-some}
 use Rattle.stores.proofs.Stores.{exec-not-made, word-set-same}
-use Rattle.rules.specs.declared.Refusal.{Refusal}
-use Rattle.rules.specs.declared.Refusal.the-variants.{TooDeep, NoSegment}
+use Rattle.replies.specs.declared.Refusal.{Refusal}
+use Rattle.replies.specs.declared.Refusal.the-variants.{TooDeep, NoSegment}
 use Rattle.rules.specs.Layout.{wordsFor, segmentOf, localDepth, segmentAddress, keyAddress, valueAddress, keyAt}
 use Rattle.rules.specs.Keys.{index, live, window}
 use Rattle.rules.specs.Slots.{hit, usable, firstUsable}
-use Rattle.rules.specs.Replies.{Said}
+use Rattle.replies.specs.Replies.{Said}
 use Rattle.rules.specs.Get.{keyEntry, keySegment}
 use Rattle.rules.specs.Split.{splitting}
 use Rattle.rules.specs.Put.{put}
 use Rattle.rules.proofs.Words.{value-inside}
 use Rattle.rules.proofs.Keys.{index-lt, window-lt}
 use Rattle.rules.proofs.Put.{choice-found, choice-into, keyHit, keyUsable, renewed, inserted, Cases, put-induction}
-use Rattle.history.specs.Map.{Map, puts, fed, updated}
+use Rattle.runs.specs.Map.{Map, puts, fed, updated}
 use Rattle.history.proofs.Holds.{key-after-value, hit-after-value}
 use Rattle.history.proofs.Invariant.{Inv, Recovered, LiveAt, baseAt, live-above, live-own, block-changed, block-recovered, BlockChanged, shape-depth}
 use Rattle.history.proofs.Recover.{inv-put-tests, inv-key-entry, inv-key-segment}

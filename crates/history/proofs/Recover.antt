@@ -7,11 +7,11 @@ use mathlib.Core.List.{List}
 use mathlib.Core.Option.{Option, none}
 use Prim.Native.Nat.{ℕ, _^_, _<_}
 use borrow.Author.Tests.{ne-eqb}
-use Rattle.rules.specs.declared.Refusal.{Refusal}
+use Rattle.replies.specs.declared.Refusal.{Refusal}
 use Rattle.rules.specs.Layout.{entryAt, segmentOf, localDepth, segmentAddress}
 use Rattle.rules.specs.Keys.{index, blockStart}
 use Rattle.rules.specs.Scan.{leader, leadingEntry, leadersValid, entriesAgree}
-use Rattle.rules.specs.Replies.{unless}
+use Rattle.replies.specs.Replies.{unless}
 use Rattle.rules.specs.Get.{keyEntry, keySegment, keyTests, getTests}
 use Rattle.rules.specs.Put.{directoryTests, putTests}
 use Rattle.rules.specs.Remove.{removeTests}
@@ -20,7 +20,7 @@ use Rattle.rules.proofs.Words.{header-valid}
 use Rattle.rules.proofs.Keys.{index-lt}
 use Rattle.rules.proofs.Blocks.{blocks-leader, blocks-leading, blocks-valid, blocks-agree}
 use Rattle.rules.proofs.Scan.{in-range}
-use Rattle.history.specs.Map.{Map}
+use Rattle.runs.specs.Map.{Map}
 use Rattle.history.proofs.Invariant.{Inv, Recovered, shape-depth, shape-maxDepth, shape-segments, shape-valid}
 
 module _ {m : Map} {g d S : ℕ} {f : ℕ → ℕ} {a : List ℕ} (inv : Inv m g d S f a) where

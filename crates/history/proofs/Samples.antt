@@ -6,14 +6,15 @@ use mathlib.Core.Bool.{Bool, true, false, not, _&&_, _||_}
 use mathlib.Core.List.{List, [], _∷_, _++_}
 use lib.ListN.{replicate}
 use Rattle.stores.specs.Lists.{each}
+use Rattle.replies.specs.Replies.{Said, saidSame}
 use Rattle.rules.specs.declared.Call.{Call}
 use Rattle.rules.specs.declared.Call.the-variants.{Format, Get, Put, Remove, Mend, List as ListCall}
 use Rattle.rules.specs.Step.{step}
 use Rattle.rules.proofs.Table.{computed}
-use Rattle.history.specs.Map.{empty, updated, fed}
-use Rattle.history.specs.Run.{start, mayFollow, isRecovery, recoveryAfter, claimedAtEnd, claimed, next, validRun}
+use Rattle.runs.specs.Map.{empty, updated, fed}
+use Rattle.runs.specs.Run.{start, mayFollow, isRecovery, recoveryAfter, claimedAtEnd, claimed, next, finish, validRun}
 use Rattle.history.specs.History.{Request, index}
-use Rattle.history.specs.Check.{sameSaid, getAgrees, getsAgree, agrees}
+use Rattle.runs.specs.Check.{getAgrees, callsAgree, getsAgree, agrees}
 
 -- A run from an index of D = 2, S = 4, with the keys that are asked for at its end, and whether it is a valid run.
 pub record Sample : Type 0 where
@@ -30,10 +31,14 @@ abbrev pub requests : List Call → List Request
 requests [] = []
 requests (c ∷ cs) = record { call = c; room = 64 } ∷ requests cs
 
+-- What a get of a key says.
+abbrev pub lookup : List ℕ → ℕ → Said
+lookup a key = (step a 0 (Get key)) .reply
+
 -- A valid run agrees with the map, and a run that is not valid is told as such.
 unfoldable pub passes : Sample → Bool
 passes s =
-    (not (s .valid) || (validRun index (start formatted) (requests (s .calls)) && agrees (s .keys) (start formatted) (requests (s .calls))))
+    (not (s .valid) || (validRun index (start formatted) (requests (s .calls)) && agrees index lookup (s .keys) (start formatted) (requests (s .calls))))
     && (s .valid || not (validRun index (start formatted) (requests (s .calls))))
 
 unfoldable pub allPass : List Sample → Bool
@@ -76,5 +81,5 @@ samples =
     ∷ []
 
 pub samples-pass : allPass samples ≡ true
-unfolding computed passes allPass samples empty updated fed mayFollow isRecovery recoveryAfter claimedAtEnd claimed next validRun sameSaid getAgrees getsAgree agrees
+unfolding computed passes allPass samples empty updated fed mayFollow isRecovery recoveryAfter claimedAtEnd claimed next finish validRun saidSame getAgrees callsAgree getsAgree agrees
 samples-pass = refl

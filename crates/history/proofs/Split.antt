@@ -21,7 +21,7 @@ use Rattle.rules.specs.Split.{doubling, halving, doublingFor, splitting}
 use Rattle.rules.proofs.Keys.{index-lt, index-half}
 use Rattle.rules.proofs.Put.{free-below}
 use Rattle.rules.proofs.Blocks.{halvedDirectory}
-use Rattle.history.specs.Map.{Map}
+use Rattle.runs.specs.Map.{Map}
 use Rattle.history.proofs.Invariant.{Inv, Recovered, shape-depth, shape-maxDepth, shape-segments}
 use Rattle.history.proofs.Recover.{inv-key-entry}
 use Rattle.history.proofs.Prefixes.{Kept, Whole, Always, always-append}

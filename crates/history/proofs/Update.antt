@@ -20,7 +20,7 @@ use Rattle.rules.specs.Split.{halfEntry, updating}
 use Rattle.rules.proofs.Words.{entry-inside, entry-positive, entry-inj, within-inside, directories-below}
 use Rattle.rules.proofs.Keys.{width-half, blockStart-bits, blockStart-le, in-block, block-same, block-end, live-whole}
 use Rattle.rules.proofs.Bound.{length-updating}
-use Rattle.history.specs.Map.{Map}
+use Rattle.runs.specs.Map.{Map}
 use Rattle.history.proofs.Holds.{Holds}
 use Rattle.history.proofs.Invariant.{Directory, Inv, Recovered, LiveAt, baseAt, LookupAgrees, SegmentSame, segments-fit, shape-kept, same-key, same-holds, live-above}
 use Rattle.history.proofs.Prefixes.{Kept, Always, exec-elsewhere, single-made, single-not-made}

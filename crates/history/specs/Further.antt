@@ -2,16 +2,16 @@
 -- Assumes nothing.
 use Prim.Native.Nat.{ℕ, _^_, _≤_}
 use mathlib.Core.Path.{_≡_}
-use mathlib.Core.Bool.{Bool, true, false, not, _&&_, _||_}
+use mathlib.Core.Bool.{Bool, true, false, _||_}
 use mathlib.Core.List.{List, [], _∷_}
 use lib.ListN.{length}
 use Rattle.rules.specs.declared.Call.the-variants.{Mend, List as ListCall}
-use Rattle.rules.specs.declared.Answer.{Answer}
+use Rattle.replies.specs.declared.Answer.{Answer}
 use Rattle.rules.specs.Layout.{depth}
-use Rattle.rules.specs.Replies.{Said, done, saidBy}
+use Rattle.replies.specs.Replies.{Said, done, saidBy, isRefusal}
 use Rattle.rules.specs.Listing.{Listed}
 use Rattle.rules.specs.Step.{step, Performed}
-use Rattle.history.specs.Run.{Machine, Point, start, isRefusal, next, validRun}
+use Rattle.runs.specs.Run.{Point, start, validRun, EachCall}
 use Rattle.history.specs.History.{Request, index, Formatted, CoveredPoint}
 use Rattle.history.specs.Listing.{ListsMap}
 
@@ -19,15 +19,11 @@ use Rattle.history.specs.Listing.{ListsMap}
 abbrev pub saysDamage : Said → Bool
 saysDamage said = isRefusal 1 said || (isRefusal 3 said || isRefusal 4 said)
 
--- No call of the run answers 1, 3 or 4.
-unfoldable pub neverDamage : (M : Machine) → Point → List (M .Call) → Bool
-neverDamage M p [] = true
-neverDamage M p (c ∷ cs) = not (saysDamage ((M .step (p .array) c) .reply)) && neverDamage M (next M p c) cs
-
 -- In a run no call answers 1, 3 or 4.
 abbrev pub NeverDamage : Type 0
 NeverDamage =
-    (a : List ℕ) → Formatted a → (calls : List Request) → validRun index (start a) calls ≡ true → neverDamage index (start a) calls ≡ true
+    (a : List ℕ) → Formatted a → (calls : List Request) → validRun index (start a) calls ≡ true
+    → EachCall index (λ p r. saysDamage ((step (p .array) (r .room) (r .call)) .reply) ≡ false) (start a) calls
 
 -- A mend at any point of a run is done if it may make as many stores as the directory has entries; at most 4,096.
 abbrev pub MendSuffices : Type 0

@@ -3,14 +3,14 @@
 use Prim.Native.Nat.{ℕ}
 use mathlib.Core.Path.{_≡_}
 use mathlib.Core.Bool.{true, false}
-use mathlib.Core.List.{List, [], _∷_}
+use mathlib.Core.List.{List, []}
 use Rattle.rules.specs.declared.Call.{Call}
 use Rattle.rules.specs.declared.Call.the-variants.{Format, Get, Put, Remove, Mend, List as ListCall}
-use Rattle.rules.specs.declared.Answer.{Answer}
-use Rattle.rules.specs.Replies.{Said, done, saidBy}
+use Rattle.replies.specs.declared.Answer.{Answer}
+use Rattle.replies.specs.Replies.{Said, done, saidBy}
 use Rattle.rules.specs.Step.{step, Performed}
-use Rattle.history.specs.Map.{View, formats, gets, puts, removes, mends, lists}
-use Rattle.history.specs.Run.{Machine, Point, start, finish, validRun, AgreesWithMap}
+use Rattle.runs.specs.Map.{View, formats, gets, puts, removes, mends, keeps}
+use Rattle.runs.specs.Run.{Machine, Point, start, validRun, Reached, AgreesWithMap, RunsAgree}
 
 -- What the map is told of a call.
 abbrev pub viewOf : Call → View
@@ -19,7 +19,7 @@ viewOf (Get key) = gets key
 viewOf (Put key value allowance) = puts key value
 viewOf (Remove key allowance) = removes key
 viewOf (Mend allowance) = mends
-viewOf ListCall = lists
+viewOf ListCall = keeps
 
 -- ---- Over the definitions
 
@@ -28,14 +28,16 @@ pub record Request : Type 0 where
   pub call : Call
   pub room : ℕ
 
--- The index, as document 01 defines its calls.
+-- The index, as document 01 defines its calls. Any call can be made on any array.
 abbrev pub index : Machine
 index =
     record {
       Call = Request;
+      Made = λ a r. Unit {0};
       step = λ a r. step a (r .room) (r .call);
       view = λ r. viewOf (r .call);
       Says = λ a key said. said ≡ (step a 0 (Get key)) .reply;
+      cutNeedsRecovery = true;
     }
 
 -- A format has just left the array a with reply done, whatever stood there before.
@@ -54,12 +56,8 @@ HistoryRule =
     (a : List ℕ) → Formatted a → (calls : List Request) → validRun index (start a) calls ≡ true → AgreesWithMap index (start a) calls
 
 -- The history rule covers a point: some valid run from a done format comes to it.
-pub record CoveredPoint (p : Point) : Type 0 where
-  pub first : List ℕ
-  pub formatted : Formatted first
-  pub calls : List Request
-  pub valid : validRun index (start first) calls ≡ true
-  pub comes : p ≡ finish index (start first) calls
+abbrev pub CoveredPoint : Point → Type 0
+CoveredPoint p = Reached index Formatted p
 
 -- The stores that the history rule covers: the arrays that such runs leave.
 pub record Covered (a : List ℕ) : Type 0 where
@@ -84,11 +82,6 @@ pub record Link : Type 0 where
   pub after : List ℕ
   pub listAfter : List ℕ
 
--- The calls of a chain were performed, each on the array that the one before left.
-abbrev pub Linked : List ℕ → List Link → Type 0
-Linked a [] = Unit {0}
-Linked a (l ∷ ls) = Performed (l .call) a (l .list) (l .answer) (l .after) (l .listAfter) × Linked (l .after) ls
-
 -- A get of the key, performed on the array a with some list array, has said `said`.
 pub record GetPerformed (a : List ℕ) (key : ℕ) (said : Said) : Type 0 where
   pub list : List ℕ
@@ -103,18 +96,26 @@ abbrev pub performed : Machine
 performed =
     record {
       Call = Link;
+      Made = λ a l. Performed (l .call) a (l .list) (l .answer) (l .after) (l .listAfter);
       step = λ a l. record { reply = saidBy (l .answer .reply); made = l .answer .stores; after = l .after };
       view = λ l. viewOf (l .call);
       Says = GetPerformed;
+      cutNeedsRecovery = true;
     }
+
+-- A format was performed, with any list array, has answered done, and has left the array a.
+pub record FormatPerformed (a : List ℕ) : Type 0 where
+  pub D : ℕ
+  pub S : ℕ
+  pub allowance : ℕ
+  pub before : List ℕ
+  pub list : List ℕ
+  pub answer : Answer
+  pub listAfter : List ℕ
+  pub performed : Performed (Format D S allowance) before list answer a listAfter
+  pub says-done : saidBy (answer .reply) ≡ done []
 
 -- The history rule over what code does: behind a performed format that answers done, every chain of performed calls that
 -- is a valid run agrees with the map.
 abbrev pub PerformedHistoryRule : Type 0
-PerformedHistoryRule =
-    (D S allowance : ℕ) (before list : List ℕ) (answer : Answer) (first listAfter : List ℕ)
-    → Performed (Format D S allowance) before list answer first listAfter
-    → saidBy (answer .reply) ≡ done []
-    → (links : List Link) → Linked first links
-    → validRun performed (start first) links ≡ true
-    → AgreesWithMap performed (start first) links
+PerformedHistoryRule = RunsAgree performed FormatPerformed

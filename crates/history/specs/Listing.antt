@@ -7,7 +7,7 @@ use mathlib.Core.Option.{none, some}
 use lib.Dec.{eqb}
 use Rattle.stores.specs.Lists.{pick}
 use Rattle.rules.specs.Listing.{Record}
-use Rattle.history.specs.Map.{Map}
+use Rattle.runs.specs.Map.{Map}
 
 -- How many of the records have the key.
 unfoldable pub occurrences : (key : ℕ) → List Record → ℕ

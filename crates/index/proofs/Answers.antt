@@ -14,10 +14,9 @@ use Rattle.stores.specs.Store.{exec, apply}
 use Rattle.stores.specs.Plan.{Plan, reply-only, cut}
 use Rattle.stores.specs.Executed.{Executed}
 use Rattle.stores.proofs.Stores.{executed-none}
-use Rattle.rules.specs.declared.Refusal.{Refusal}
-use Rattle.rules.specs.declared.Answer.{Answer}
-use Rattle.rules.specs.Replies.{Said, refused, refuse, saidBy, tested}
-use Rattle.rules.specs.Step.{changed}
+use Rattle.replies.specs.declared.Refusal.{Refusal}
+use Rattle.replies.specs.declared.Answer.{Answer}
+use Rattle.replies.specs.Replies.{Said, refused, refuse, saidBy, tested, changed}
 use Rattle.index.specs.Answered.{Answered}
 
 module _ (allowed : ℕ) (p : Plan Said) (before : List ℕ) (r : Answer) where

@@ -12,20 +12,20 @@ use Rattle.stores.specs.Lists.{pick, each}
 use Rattle.stores.specs.Store.{store}
 use Rattle.stores.specs.Executed.{Executed}
 use Rattle.stores.proofs.Stores.{executed-append}
-use Rattle.rules.specs.declared.Refusal.{Refusal}
-use Rattle.rules.specs.declared.Refusal.the-variants.{NoStore, Broken, BadShape, TooShort}
-use Rattle.rules.specs.declared.Answer.{Answer}
+use Rattle.replies.specs.declared.Refusal.{Refusal}
+use Rattle.replies.specs.declared.Refusal.the-variants.{NoStore, Broken, BadShape, TooShort}
+use Rattle.replies.specs.declared.Answer.{Answer}
 use Rattle.rules.specs.declared.Call.the-variants.{Format, Get, Remove, Mend}
 use Rattle.rules.specs.Layout.{validShape, validHeader, wordsFor, header, depth, segments, segmentAddress, keyAddress, valueAt}
 use Rattle.rules.specs.Scan.{inRange, leadersValid}
 use Rattle.rules.specs.Slots.{hit}
-use Rattle.rules.specs.Replies.{Said, done, absent, refused, refuse, saidBy, unless, tested, replied}
+use Rattle.replies.specs.Replies.{Said, done, absent, refused, refuse, saidBy, unless, tested, replied}
 use Rattle.rules.specs.Format.{formatTests, formatStores, format}
 use Rattle.rules.specs.Get.{keyEntry, keySegment, keyTests, getTests, valueAtHit, get}
 use Rattle.rules.specs.Put.{directoryTests, putTests}
 use Rattle.rules.specs.Remove.{removeTests, clearedAt, remove}
 use Rattle.rules.specs.Mend.{mendTests, mending, mend}
-use Rattle.rules.specs.Step.{step}
+use Rattle.rules.specs.Step.{effect, step}
 use Rattle.directory.specs.declared.scan.Verdict.{Verdict}
 use Rattle.directory.specs.declared.scan.Verdict.the-variants.{Broken as BrokenVerdict, Unmended, Consistent}
 use Rattle.directory.specs.Scans.{verdictOf}
@@ -60,18 +60,18 @@ format-stores D S allowed a n₁ a₁ n₂ a₂ base n₃ a₃ w n₄ a₄ b v e
 
 module _ (a : List ℕ) (D S allowance : ℕ) (r : Answer) where
   pub format-bad-shape : validShape D S ≡ false → Without r (refused 8) → Answered (step a 0 (Format D S allowance)) r a
-  unfolding step format formatTests unless
+  unfolding effect step format formatTests unless
   format-bad-shape e k = answered-refused allowance (formatTests a D S) BadShape _ a r (rw e) (k .0) (k .1)
 
   module _ (v : validShape D S ≡ true) where
     pub format-too-short : length a < wordsFor D S → Without r (refused 9) → Answered (step a 0 (Format D S allowance)) r a
-    unfolding step format formatTests unless
+    unfolding effect step format formatTests unless
     format-too-short e k =
         answered-refused allowance (formatTests a D S) TooShort _ a r (rw (v, lt-leb (wordsFor D S) (length a) e)) (k .0) (k .1)
 
     pub format-done : wordsFor D S ≤ length a → (due : ℕ) (after : List ℕ) → Executed (formatStores D S) allowance 0 a due after
         → Told r (done []) allowance due → Answered (step a 0 (Format D S allowance)) r after
-    unfolding step format formatTests unless tested
+    unfolding effect step format formatTests unless tested
     format-done e due after x k =
         rw (v, le-leb (wordsFor D S) (length a) e)
         (answered-stores allowance (record { due = formatStores D S; reply = done [] }) a r due after x k)
@@ -80,7 +80,7 @@ module _ (a : List ℕ) (D S allowance : ℕ) (r : Answer) where
 
 module _ (a : List ℕ) (key : ℕ) (r : Answer) where
   get-answer : Without r (get a key) → Answered (step a 0 (Get key)) r a
-  unfolding step
+  unfolding effect step
   get-answer k = record { reply = k .0; stores = k .1; words = refl }
 
   pub get-no-store : validHeader a ≡ false → Without r (refused 1) → Answered (step a 0 (Get key)) r a
@@ -110,18 +110,18 @@ module _ (a : List ℕ) (key : ℕ) (r : Answer) where
 
 module _ (a : List ℕ) (key allowance : ℕ) (r : Answer) where
   pub remove-refused : (q : Refusal) → putTests a key ≡ some q → Without r (refuse q) → Answered (step a 0 (Remove key allowance)) r a
-  unfolding step remove removeTests putTests
+  unfolding effect step remove removeTests putTests
   remove-refused q e k = answered-refused allowance (removeTests a key) q _ a r e (k .0) (k .1)
 
   module _ (e : putTests a key ≡ none) (base : ℕ) (b : keySegment a key ≡ base) where
     pub remove-absent : hit a base key ≡ none → Without r absent → Answered (step a 0 (Remove key allowance)) r a
-    unfolding step remove removeTests putTests tested clearedAt
+    unfolding effect step remove removeTests putTests tested clearedAt
     remove-absent h k = rw (e, b, h) (answered-only allowance absent a r (k .0) (k .1))
 
     pub remove-done : (j : ℕ) → hit a base key ≡ some j → (due : ℕ) (after : List ℕ)
         → Executed (store (keyAddress base j) 0 ∷ []) allowance 0 a due after → Told r (done []) allowance due
         → Answered (step a 0 (Remove key allowance)) r after
-    unfolding step remove removeTests putTests tested clearedAt
+    unfolding effect step remove removeTests putTests tested clearedAt
     remove-done j h due after x k =
         rw (e, b, h) (answered-stores allowance (record { due = store (keyAddress base j) 0 ∷ []; reply = done [] }) a r due after x k)
 
@@ -136,16 +136,16 @@ verdict-valid a Consistent e n = verdict-consistent a Consistent e refl .0
 
 module _ (a : List ℕ) (allowance : ℕ) (r : Answer) where
   pub mend-no-store : validHeader a ≡ false → Without r (refused 1) → Answered (step a 0 (Mend allowance)) r a
-  unfolding step mend mendTests unless
+  unfolding effect step mend mendTests unless
   mend-no-store e k = answered-refused allowance (mendTests a) NoStore _ a r (rw e) (k .0) (k .1)
 
   module _ (v : validHeader a ≡ true) where
     pub mend-broken : leadersValid a (depth a) (segments a) ≡ false → Without r (refused 3) → Answered (step a 0 (Mend allowance)) r a
-    unfolding step mend mendTests unless
+    unfolding effect step mend mendTests unless
     mend-broken e k = answered-refused allowance (mendTests a) Broken _ a r (rw (v, e)) (k .0) (k .1)
 
     pub mend-done : leadersValid a (depth a) (segments a) ≡ true → (due : ℕ) (after : List ℕ)
         → Executed (mending a) allowance 0 a due after → Told r (done []) allowance due → Answered (step a 0 (Mend allowance)) r after
-    unfolding step mend mendTests unless tested
+    unfolding effect step mend mendTests unless tested
     mend-done e due after x k =
         rw (v, e) (answered-stores allowance (record { due = mending a; reply = done [] }) a r due after x k)

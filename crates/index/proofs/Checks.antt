@@ -6,11 +6,11 @@ use mathlib.Core.List.{List}
 use mathlib.Core.Option.{Option, none, some}
 use Prim.Native.Nat.{ℕ}
 use borrow.Author.Tests.{eq-eqb, ne-eqb}
-use Rattle.rules.specs.declared.Refusal.{Refusal}
-use Rattle.rules.specs.declared.Refusal.the-variants.{NoStore, NoKey}
+use Rattle.replies.specs.declared.Refusal.{Refusal}
+use Rattle.replies.specs.declared.Refusal.the-variants.{NoStore, NoKey}
 use Rattle.rules.specs.Layout.{validHeader, depth, segments}
 use Rattle.rules.specs.Scan.{inRange}
-use Rattle.rules.specs.Replies.{unless}
+use Rattle.replies.specs.Replies.{unless}
 use Rattle.rules.specs.Get.{keyEntry, keyTests}
 use Rattle.rules.specs.Put.{directoryTests, putTests}
 use Rattle.rules.proofs.Scan.{in-range}

@@ -14,17 +14,17 @@ use lib.ListN.{length, drop, length-append}
 use Rattle.stores.specs.Lists.{pick, each}
 use Rattle.stores.specs.Store.{word}
 use Rattle.stores.proofs.Lists.{each-suc, each-zero}
-use Rattle.rules.specs.declared.Refusal.{Refusal}
-use Rattle.rules.specs.declared.Refusal.the-variants.{NoStore, Broken, Unmended, ShortList}
-use Rattle.rules.specs.declared.Answer.{Answer}
+use Rattle.replies.specs.declared.Refusal.{Refusal}
+use Rattle.replies.specs.declared.Refusal.the-variants.{NoStore, Broken, Unmended, ShortList}
+use Rattle.replies.specs.declared.Answer.{Answer}
 use Rattle.rules.specs.declared.Call.the-variants.{List as ListCall}
 use Rattle.rules.specs.Layout.{validHeader, depth, segments, entryAt, segmentOf, localDepth}
 use Rattle.rules.specs.Keys.{index, width}
 use Rattle.rules.specs.Scan.{leader, leadersValid, entriesAgree}
-use Rattle.rules.specs.Replies.{done, refuse, unless, replied}
+use Rattle.replies.specs.Replies.{done, refuse, unless, replied}
 use Rattle.rules.specs.Put.{directoryTests}
 use Rattle.rules.specs.Listing.{Record, liveRecord, blockRecords, records, wordsOf, listTests, list}
-use Rattle.rules.specs.Step.{step, Performed}
+use Rattle.rules.specs.Step.{effect, step, Performed}
 use Rattle.rules.proofs.Keys.{width-pos}
 use Rattle.rules.proofs.Scan.{led, next-leads, leader-fits, valid-at-depth, valid-at-segment, valid-at-aligned, each-one}
 use Rattle.stores.specs.Written.{Written}
@@ -208,12 +208,12 @@ module _ (a : List ℕ) (room : ℕ) where
 
 module _ (a l : List ℕ) (r : Answer) where
   pub list-refused : (q : Refusal) → listTests a (length l) ≡ some q → Without r (refuse q) → Performed ListCall a l r a l
-  unfolding step list replied
+  unfolding effect step list replied
   list-refused q e k = record { reply = rw e (k .0); stores = k .1; words = refl; listed = rw e refl }
 
   pub list-done : listTests a (length l) ≡ none → Without r (done (length (records a) ∷ [])) → (n : ℕ) (l′ : List ℕ)
       → Written (wordsOf (records a)) 0 l n l′ → Performed ListCall a l r a l′
-  unfolding step list replied
+  unfolding effect step list replied
   list-done e k n l′ w =
       record {
         reply = rw e (k .0);

@@ -1,35 +1,31 @@
 -- From a call's own promise to that of the performed call.
 -- Assumes nothing.
+use mathlib.Core.Path.{_≡_, refl, ap, _∙_}
+use mathlib.Core.Bool.{Bool, false, _&&_}
 use Prim.Native.Nat.{ℕ}
-use mathlib.Core.Path.{_≡_, refl}
 use mathlib.Core.List.{List}
-use Rattle.rules.specs.declared.Answer.{Answer}
+use lib.ListN.{length}
+use Rattle.stores.specs.Plan.{Outcome}
+use Rattle.replies.specs.declared.Answer.{Answer}
+use Rattle.replies.specs.Replies.{Said, isDone}
 use Rattle.rules.specs.declared.Call.{Call}
-use Rattle.rules.specs.declared.Call.the-variants.{Format, Get, Put, Remove, Mend, List as ListCall}
-use Rattle.rules.specs.Step.{step, Performed}
+use Rattle.rules.specs.Step.{step, lists, WrittenIf, Performed}
+use Rattle.rules.proofs.Local.{step-room}
 use Rattle.index.specs.Answered.{Answered}
-
--- The call is no list.
-abbrev pub NoList : Call → Type 0
-NoList (Format D S allowance) = Unit {0}
-NoList (Get key) = Unit {0}
-NoList (Put key value allowance) = Unit {0}
-NoList (Remove key allowance) = Unit {0}
-NoList (Mend allowance) = Unit {0}
-NoList ListCall = ⊥
 
 module _ (a l : List ℕ) (r : Answer) (b : List ℕ) where
   -- What `format`, `get`, `put`, `remove` and `mend` promise is a performed call, with any list array: they do not look at it, and
   -- leave it. (`list` promises a performed call as it stands.)
-  pub answered-performed : (call : Call) → NoList call → Answered (step a 0 call) r b → Performed call a l r b l
-  unfolding step
-  answered-performed (Format D S allowance) q k = record { reply = k .reply; stores = k .stores; words = k .words; listed = refl }
-  answered-performed (Get key) q k = record { reply = k .reply; stores = k .stores; words = k .words; listed = refl }
-  answered-performed (Put key value allowance) q k = record { reply = k .reply; stores = k .stores; words = k .words; listed = refl }
-  answered-performed (Remove key allowance) q k = record { reply = k .reply; stores = k .stores; words = k .words; listed = refl }
-  answered-performed (Mend allowance) q k = record { reply = k .reply; stores = k .stores; words = k .words; listed = refl }
-  answered-performed ListCall q k = absurd q
+  pub answered-performed : (call : Call) → lists call ≡ false → Answered (step a 0 call) r b → Performed call a l r b l
+  answered-performed call q k =
+      let same = step-room a 0 (length l) call q in
+      record {
+        reply = k .reply ∙ ap (λ (o : Outcome Said). o .reply) same;
+        stores = k .stores ∙ ap (λ (o : Outcome Said). o .made) same;
+        words = k .words ∙ ap (λ (o : Outcome Said). o .after) same;
+        listed = rw q refl;
+      }
 
   -- The call that was given is the one that was answered.
-  pub performed : {given call : Call} → given ≡ call → NoList call → Answered (step a 0 call) r b → Performed given a l r b l
+  pub performed : {given call : Call} → given ≡ call → lists call ≡ false → Answered (step a 0 call) r b → Performed given a l r b l
   performed {given} {call} e q k = rw e (answered-performed call q k)

@@ -16,20 +16,20 @@ use Rattle.stores.specs.Executed.{Executed}
 use Rattle.stores.proofs.Tests.{same-test}
 use Rattle.stores.proofs.Stores.{exec-append, exec-all, exec-not-made}
 use Rattle.stores.proofs.Plans.{made-allowed}
-use Rattle.rules.specs.declared.Refusal.{Refusal}
-use Rattle.rules.specs.declared.Refusal.the-variants.{TooDeep, NoSegment, CutOff}
-use Rattle.rules.specs.declared.Reply.the-variants.{Refused as RefusedReply}
-use Rattle.rules.specs.declared.Answer.{Answer}
+use Rattle.replies.specs.declared.Refusal.{Refusal}
+use Rattle.replies.specs.declared.Refusal.the-variants.{TooDeep, NoSegment, CutOff}
+use Rattle.replies.specs.declared.Reply.the-variants.{Refused as RefusedReply}
+use Rattle.replies.specs.declared.Answer.{Answer}
 use Rattle.rules.specs.declared.Call.the-variants.{Put}
 use Rattle.rules.specs.Layout.{depth, maxDepth, segments, entryAt, localDepth, segmentAddress, valueAddress}
 use Rattle.rules.specs.Keys.{index}
 use Rattle.rules.specs.Scan.{inRange}
 use Rattle.rules.specs.Slots.{found, into, full, choose, freeSegment}
-use Rattle.rules.specs.Replies.{Said, refuse, saidBy}
+use Rattle.replies.specs.Replies.{Said, refuse, saidBy, changed}
 use Rattle.rules.specs.Get.{keyEntry, keySegment}
 use Rattle.rules.specs.Split.{splitting}
 use Rattle.rules.specs.Put.{putTests, keyChoice, unused, put}
-use Rattle.rules.specs.Step.{changed, step}
+use Rattle.rules.specs.Step.{effect, step}
 use Rattle.rules.proofs.Keys.{index-shift}
 use Rattle.rules.proofs.Split.{Splittable, unused-falls}
 use Rattle.rules.proofs.Range.{hit-slot, usable-slot}
@@ -168,26 +168,26 @@ module _ {h : Header} {a : List ℕ} {key s L : ℕ} (p : KeyPlace h a key s L) 
       module _ (value allowance : ℕ) (r : Answer) (after : List ℕ) where
         pub answers-found : {j : ℕ} → x ≡ Found j → Answered (changed allowance (valuePut base value j) a) r after
             → Answered (step a 0 (Put key value allowance)) r after
-        unfolding step
+        unfolding effect step
         answers-found {j} q m = rw (put-found a key value (p .tests-passed) j (choice-found-read q), stands .base-is) m
 
         pub answers-into : {j : ℕ} → x ≡ Into j → Answered (changed allowance (recordPut base key value j) a) r after
             → Answered (step a 0 (Put key value allowance)) r after
-        unfolding step
+        unfolding effect step
         answers-into {j} q m = rw (put-into a key value (p .tests-passed) j (choice-into-read q), stands .base-is) m
 
 -- ---- Refusals
 
 pub answers-refused : (a : List ℕ) (key value allowance : ℕ) (q : Refusal) (r : Answer) → putTests a key ≡ some q
     → (r .reply ≡ RefusedReply q) × (r .stores ≡ 0) → Answered (step a 0 (Put key value allowance)) r a
-unfolding step
+unfolding effect step
 answers-refused a key value allowance q r t e =
     rw (put-refused a key value q t) (answered-only allowance (refuse q) a r (ap saidBy (e .0)) (e .1))
 
 module _ {h : Header} {a : List ℕ} {key s L : ℕ} (p : KeyPlace h a key s L) (full-window : keyChoice a key ≡ full) where
   pub answers-too-deep : (value allowance : ℕ) → L ≡ h .«max_depth» → (r : Answer) → (r .reply ≡ RefusedReply TooDeep) × (r .stores ≡ 0)
       → Answered (step a 0 (Put key value allowance)) r a
-  unfolding step
+  unfolding effect step
   answers-too-deep value allowance d r e =
       let deep : localDepth (keyEntry a key) ≡ maxDepth a = p .entry .depth-is ∙ d ∙ sym (p .header-read .max-depth-read) in
       rw (put-too-deep a key value (p .tests-passed) full-window deep)
@@ -204,7 +204,7 @@ module _ {h : Header} {a : List ℕ} {key s L : ℕ} (p : KeyPlace h a key s L) 
     module _ {x : Free} (f : freeOf x ≡ freeSegment a) where
       pub answers-no-segment : (value allowance : ℕ) → x ≡ Nothing → (r : Answer) → (r .reply ≡ RefusedReply NoSegment) × (r .stores ≡ 0)
           → Answered (step a 0 (Put key value allowance)) r a
-      unfolding step
+      unfolding effect step
       answers-no-segment value allowance q r e =
           rw (put-no-segment a key value (p .tests-passed) full-window room (sym (rw q at f)))
           (answered-only allowance (refuse NoSegment) a r (ap saidBy (e .0)) (e .1))
@@ -236,7 +236,7 @@ module _ {h : Header} {a : List ℕ} {key s L n : ℕ} (m : MustSplit h a key s 
     due-length = made .count ∙ zero-add (length (splitting a key n))
 
     pub answers-cut : allowance < due → Answered (step a 0 (Put key value allowance)) (record { reply = RefusedReply CutOff; stores = allowance }) b
-    unfolding step
+    unfolding effect step
     answers-cut l =
         rw (plan, changed-then-cut allowance (splitting a key n) (put (apply (splitting a key n) a) key value) a (rw due-length at l))
         (record { reply = refl; stores = refl; words = made .words ∙ rw (sub-zero allowance) })
@@ -256,11 +256,11 @@ module _ {h : Header} {a : List ℕ} {key s L n : ℕ} (m : MustSplit h a key s 
 
       module _ {rest : Answer} {after : List ℕ} (again : Answered (step b 0 (Put key value (allowance - due))) rest after) where
         pub rest-allowed : rest .stores ≤ allowance - due
-        unfolding step changed
+        unfolding effect step changed
         rest-allowed = rw (again .stores) (made-allowed (refuse CutOff) (allowance - due) (put b key value) b)
 
         pub answers-again : Answered (step a 0 (Put key value allowance)) (record { reply = rest .reply; stores = due + rest .stores }) after
-        unfolding step
+        unfolding effect step
         answers-again =
             let o = rw (split-whole, due-length) at again in
             rw (plan, changed-then allowance (splitting a key n) (put (apply (splitting a key n) a) key value) a (rw due-length at whole))

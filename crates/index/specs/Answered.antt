@@ -4,8 +4,8 @@ use Prim.Native.Nat.{ℕ}
 use mathlib.Core.Path.{_≡_}
 use mathlib.Core.List.{List}
 use Rattle.stores.specs.Plan.{Outcome}
-use Rattle.rules.specs.declared.Answer.{Answer}
-use Rattle.rules.specs.Replies.{Said, saidBy}
+use Rattle.replies.specs.declared.Answer.{Answer}
+use Rattle.replies.specs.Replies.{Said, saidBy}
 
 -- The answer and the array afterwards are those of the outcome: what is said, the number of stores made, and every word.
 pub record Answered (o : Outcome Said) (answer : Answer) (after : List ℕ) : Type 0 where

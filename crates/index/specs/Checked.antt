@@ -4,7 +4,7 @@ use mathlib.Core.Path.{_≡_}
 use Prim.Native.Nat.{ℕ}
 use mathlib.Core.List.{List}
 use mathlib.Core.Option.{Option, none, some}
-use Rattle.rules.specs.declared.Refusal.{Refusal}
+use Rattle.replies.specs.declared.Refusal.{Refusal}
 use Rattle.directory.specs.Headers.{Describes}
 use Rattle.index.specs.declared.check.Checked.{Checked}
 use Rattle.index.specs.declared.check.Checked.the-variants.{Passed, Refused}

@@ -5,7 +5,7 @@ use mathlib.Core.List.{[], _∷_}
 use Rattle.stores.specs.Store.{store}
 use Rattle.stores.specs.Plan.{Plan}
 use Rattle.rules.specs.Layout.{keyAddress, valueAddress}
-use Rattle.rules.specs.Replies.{Said, done}
+use Rattle.replies.specs.Replies.{Said, done}
 
 -- The value alone, at slot j of the segment at `base`.
 abbrev pub valuePut : (base value j : ℕ) → Plan Said

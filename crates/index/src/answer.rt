@@ -1,12 +1,12 @@
 // Answers: a refusal before the first store, and the answer of a call whose stores are counted.
-use rules::Answer;
-use rules::Refusal;
-use rules::Reply;
+use replies::Answer;
+use replies::Refusal;
+use replies::Reply;
 ghost use mathlib.Core.Path.{_≡_};
 ghost use Prim.Native.Nat.{min};
 ghost use lib.Dec.{leb};
 ghost use Rattle.stores.specs.Lists.{pick};
-ghost use Rattle.rules.specs.Replies.{saidBy, refused};
+ghost use Rattle.replies.specs.Replies.{saidBy, refused};
 
 // The answer of a call that made no store.
 pub(crate) fn without_store(reply: Reply) -> Answer

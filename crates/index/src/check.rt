@@ -4,7 +4,7 @@ use directory::header::HeaderRead;
 use directory::header::read_header;
 use directory::scan::Verdict;
 use directory::scan::scan;
-use rules::Refusal;
+use replies::Refusal;
 ghost use mathlib.Core.Option.{none};
 ghost use Rattle.rules.specs.Put.{putTests};
 ghost use Rattle.index.specs.Checked.{CheckedBy};

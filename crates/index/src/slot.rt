@@ -1,8 +1,8 @@
 // The slot of a put: which it is, and what is stored there.
 use crate::answer::after_stores;
 use crate::place::SEGMENT_WORDS;
-use rules::Answer;
-use rules::Reply;
+use replies::Answer;
+use replies::Reply;
 use segment::choice::Choice;
 use segment::choice::choose;
 use stores::store_word;
@@ -11,7 +11,7 @@ ghost use Prim.Native.Nat.{_+_, _≤_, _<_};
 ghost use lib.ListN.{length};
 ghost use Rattle.rules.specs.Keys.{index};
 ghost use Rattle.rules.specs.Slots.{choose};
-ghost use Rattle.rules.specs.Step.{changed};
+ghost use Rattle.replies.specs.Replies.{changed};
 ghost use Rattle.segment.specs.Answers.{choiceOf};
 ghost use Rattle.index.specs.Answered.{Answered};
 ghost use Rattle.index.specs.Slots.{valuePut, recordPut};

@@ -24,10 +24,10 @@ use index_model::CUT_OFF;
 use index_model::DONE;
 use index_model::Outcome;
 use index_model::words::CELLS;
-use rules::Answer;
-use rules::Refusal;
-use rules::Reply;
-use rules::refusal_number;
+use replies::Answer;
+use replies::Refusal;
+use replies::Reply;
+use replies::refusal_number;
 ghost use Prim.Native.Nat.{_≤_};
 ghost use Rattle.index_compare.specs.Counts.{Apart};
 

@@ -1,5 +1,5 @@
 // The calls of the index on the first words of an array.
-use rules::Answer;
+use replies::Answer;
 ghost use Prim.Native.Nat.{_≤_};
 ghost use Rattle.index_compare.specs.Lengths.{SameLength};
 

@@ -10,7 +10,7 @@ use index_compare::tally::expect;
 use index_model::words::Cells;
 use index_model::words::set_word;
 use index_model::words::word_at;
-use rules::Reply;
+use replies::Reply;
 use std::num::wrapping_add_usize;
 
 // The keys of a run. Each has three words in the table.

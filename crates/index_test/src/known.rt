@@ -24,7 +24,7 @@ use index_model::words::CELLS;
 use index_model::words::Cells;
 use index_model::words::set_word;
 use index_model::words::word_at;
-use rules::Answer;
+use replies::Answer;
 use std::num::wrapping_add_u64;
 
 const DEPTH: u64 = 2;

@@ -3,17 +3,19 @@
 -- Assumes nothing.
 use Prim.Native.Nat.{ℕ}
 use mathlib.Core.Path.{_≡_, refl, sym}
+use mathlib.Core.Bool.{false}
 use mathlib.Core.List.{List}
 use lib.ListN.{length}
 use Rattle.stores.specs.Plan.{Outcome}
-use Rattle.rules.specs.declared.Answer.{Answer}
+use Rattle.replies.specs.declared.Answer.{Answer}
 use Rattle.rules.specs.declared.Call.{Call}
 use Rattle.rules.specs.declared.Call.the-variants.{List as ListCall}
-use Rattle.rules.specs.Replies.{Said, saidBy}
-use Rattle.rules.specs.Step.{step, Performed}
-use Rattle.rules.proofs.Said.{Sayable, step-sayable}
+use Rattle.replies.specs.Replies.{Said, saidBy}
+use Rattle.rules.specs.Step.{step, lists, Performed}
+use Rattle.replies.proofs.Sayable.{Sayable}
+use Rattle.rules.proofs.Said.{step-sayable}
 use Rattle.index.specs.Answered.{Answered}
-use Rattle.index.proofs.Performs.{NoList, answered-performed}
+use Rattle.index.proofs.Performs.{answered-performed}
 use Rattle.page_index.specs.declared.PageIndexReply.{PageIndexReply}
 use Rattle.page_index.specs.Told.{Tells, Told, ToldList}
 use Rattle.page_index.proofs.Tellings.{tells-same}
@@ -34,7 +36,7 @@ answer-tells o s r k = tells-same k (sym (s .says)) refl
 
 module _ (a l : List ℕ) (r : PageIndexReply) where
   -- What `page_index_format`, `_get`, `_put`, `_remove` and `_mend` promise, with any list array.
-  pub told-performed : (call : Call) → NoList call → (a′ : List ℕ) → Told (step a 0 call) r a′ → ToldPerformed call a l r a′ l
+  pub told-performed : (call : Call) → lists call ≡ false → (a′ : List ℕ) → Told (step a 0 call) r a′ → ToldPerformed call a l r a′ l
   told-performed call q a′ t =
       let s = step-sayable a 0 call in
       record {

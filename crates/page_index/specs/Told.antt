@@ -6,7 +6,7 @@ use mathlib.Core.List.{List, [], _∷_}
 use lib.ListN.{length}
 use Rattle.stores.specs.Plan.{Outcome}
 use Rattle.rules.specs.declared.Call.the-variants.{List as ListCall}
-use Rattle.rules.specs.Replies.{Said, done, absent, refused}
+use Rattle.replies.specs.Replies.{Said, done, absent, refused}
 use Rattle.rules.specs.Step.{step, ListLeft}
 use Rattle.page_index.specs.declared.PageIndexReply.{PageIndexReply}
 

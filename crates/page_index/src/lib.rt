@@ -1,9 +1,9 @@
 // The six calls for C and Rust. Each is the index's call, its answer told in three numbers.
-use rules::Answer;
-use rules::Reply;
-use rules::refusal_number;
+use replies::Answer;
+use replies::Reply;
+use replies::refusal_number;
 ghost use Rattle.rules.specs.declared.Call.the-variants.{Format, Get, Put, Remove, Mend};
-ghost use Rattle.rules.specs.Replies.{saidBy};
+ghost use Rattle.replies.specs.Replies.{saidBy};
 ghost use Rattle.rules.specs.Step.{step};
 ghost use Rattle.page_index.specs.Told.{Tells, Told, ToldList};
 

@@ -14,10 +14,10 @@ use Rattle.stores.specs.Lists.{pick}
 use Rattle.stores.specs.Store.{Store, store, apply}
 use Rattle.stores.specs.Plan.{Plan}
 use Rattle.stores.proofs.Lists.{length-each-le, length-each-ones}
-use Rattle.rules.specs.declared.Refusal.{Refusal}
+use Rattle.replies.specs.declared.Refusal.{Refusal}
 use Rattle.rules.specs.Layout.{depth, maxDepth, segments, header, entryAddress, entryAt, localDepth, segmentOf, segmentAddress}
 use Rattle.rules.specs.Keys.{width}
-use Rattle.rules.specs.Replies.{Said}
+use Rattle.replies.specs.Replies.{Said}
 use Rattle.rules.specs.Get.{keyEntry}
 use Rattle.rules.specs.Split.{doubling, moves, copySlot, copying, halfEntry, updating, halving, doublingFor, splitting}
 use Rattle.rules.specs.Put.{putTests, put}

@@ -14,7 +14,7 @@ use Rattle.stores.proofs.Stores.{apply-append}
 use Rattle.rules.specs.Layout.{maxDepth, segments, localDepth, keyAt}
 use Rattle.rules.specs.Keys.{live, window}
 use Rattle.rules.specs.Slots.{full, hit, usable, firstUsable, named}
-use Rattle.rules.specs.Replies.{Said, done, refused, numberOf}
+use Rattle.replies.specs.Replies.{Said, done, refused, numberOf}
 use Rattle.rules.specs.Get.{keyEntry, keySegment}
 use Rattle.rules.specs.Split.{splitting}
 use Rattle.rules.specs.Put.{keyChoice, put}

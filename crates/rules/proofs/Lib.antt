@@ -2,7 +2,6 @@
 pub mod Table
 pub mod States
 pub mod Samples
-pub mod Outcomes
 pub mod Words
 pub mod Keys
 pub mod Scan

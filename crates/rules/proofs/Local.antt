@@ -1,7 +1,7 @@
 -- What a call says and stores depends only on the words that D and S take, and on the array's length.
 -- Assumes nothing.
 use mathlib.Core.Path.{_≡_, refl, sym, ap, ap₂, _∙_}
-use mathlib.Core.Bool.{Bool, true, false, not}
+use mathlib.Core.Bool.{Bool, true, false, not, true≢false}
 use mathlib.Core.List.{List, [], _∷_, _++_}
 use mathlib.Core.Option.{Option, none, some}
 use mathlib.Core.Logic.{⊎-elim}
@@ -18,15 +18,15 @@ use Rattle.stores.specs.Plan.{Plan, Outcome, cut}
 use Rattle.stores.proofs.Tests.{cases}
 use Rattle.stores.proofs.Lists.{each-same, first-same, all-same, any-same}
 use Rattle.stores.proofs.Stores.{length-apply}
-use Rattle.rules.specs.declared.Refusal.{Refusal}
-use Rattle.rules.specs.declared.Refusal.the-variants.{NoStore, NoKey, Broken, Unmended}
+use Rattle.replies.specs.declared.Refusal.{Refusal}
+use Rattle.replies.specs.declared.Refusal.the-variants.{NoStore, NoKey, Broken, Unmended}
 use Rattle.rules.specs.declared.Call.{Call}
 use Rattle.rules.specs.declared.Call.the-variants.{Format, Get, Put, Remove, Mend, List as ListCall}
 use Rattle.rules.specs.Layout.{header, depth, maxDepth, segments, wordsFor, validHeader, entryAddress, entryAt, segmentOf, localDepth, segmentAddress, keyAddress, valueAddress, keyAt, valueAt}
 use Rattle.rules.specs.Keys.{index, blockBits, window}
 use Rattle.rules.specs.Scan.{inRange, validLeader, nextLeader, leader, leadingEntry, leadersValid, entriesAgree}
 use Rattle.rules.specs.Slots.{hit, usable, firstUsable, Choice, found, into, full, choose, named, freeSegment}
-use Rattle.rules.specs.Replies.{Said, unless, tested, replied}
+use Rattle.replies.specs.Replies.{Said, unless, tested, replied, changed}
 use Rattle.rules.specs.Format.{formatTests, format}
 use Rattle.rules.specs.Get.{keyEntry, keySegment, keyTests, getTests, valueAtHit, get}
 use Rattle.rules.specs.Split.{doubling, moves, copySlot, copying, halvingOf, halving, doublingFor, splitting}
@@ -34,12 +34,12 @@ use Rattle.rules.specs.Put.{directoryTests, putTests, keyChoice, put}
 use Rattle.rules.specs.Remove.{removeTests, clearedAt, remove}
 use Rattle.rules.specs.Mend.{mendTests, mendEntry, mending, mend}
 use Rattle.rules.specs.Listing.{liveRecord, blockRecords, records, listTests, list}
-use Rattle.rules.specs.Step.{changed, unchanged, step}
+use Rattle.rules.specs.Step.{Effect, changes, answers, effect, carriedOut, step, lists}
 use Rattle.rules.proofs.Words.{ValidHeader, valid-header, header-valid, entry-inside, directories-below}
 use Rattle.rules.proofs.Keys.{index-lt, window-lt}
 use Rattle.rules.proofs.Scan.{range-segment, leader-le, valid-at-segment}
 use Rattle.rules.proofs.Put.{unless-none, Passed, passed, put-refused, put-found, put-into, put-too-deep, put-no-segment, put-again, Cases, put-induction}
-use Rattle.rules.proofs.Range.{hit-slot}
+use Rattle.rules.proofs.Range.{hit-slot, Shape, ownShape}
 use Rattle.rules.proofs.Halving.{keyUpdates}
 use Rattle.rules.proofs.Split.{Ready, ready, Splittable, AfterSplit, after-split}
 
@@ -422,13 +422,12 @@ put-local {a} {b} s key value = put-induction key value (λ a p. (b : List ℕ) 
 
 -- What two arrays share for a call to do the same on both: the words that D and S take, and the length; for a format, the
 -- length alone.
+abbrev pub AlikeFor : (a b : List ℕ) → Option Shape → Type 0
+AlikeFor a b none = Agree a b
+AlikeFor a b (some s) = length a ≡ length b
+
 abbrev pub Alike : (a b : List ℕ) → Call → Type 0
-Alike a b (Format D S allowance) = length a ≡ length b
-Alike a b (Get key) = Agree a b
-Alike a b (Put key value allowance) = Agree a b
-Alike a b (Remove key allowance) = Agree a b
-Alike a b (Mend allowance) = Agree a b
-Alike a b ListCall = Agree a b
+Alike a b c = AlikeFor a b (ownShape c)
 
 -- The outcomes x on the array a and y on the array b say the same, after as many stores, and leave the same word wherever
 -- a and b had the same.
@@ -437,21 +436,40 @@ pub record SameOutcome (a b : List ℕ) (x y : Outcome Said) : Type 0 where
   pub made : x .made ≡ y .made
   pub words : (i : ℕ) → word a i ≡ word b i → word (x .after) i ≡ word (y .after) i
 
-changed-same : (allowance : ℕ) {p q : Plan Said} (a b : List ℕ) → p ≡ q → length a ≡ length b
-    → SameOutcome a b (changed allowance p a) (changed allowance q b)
+carried-same : (e : Effect) (a b : List ℕ) → length a ≡ length b → SameOutcome a b (carriedOut e a) (carriedOut e b)
 unfolding changed cut exec
-changed-same allowance {p} {q} a b e l =
-    record { reply = rw e; made = rw e; words = λ i h. rw e (apply-same (take allowance (q .due)) a b i l h) }
+carried-same (changes allowance p) a b l =
+    record { reply = refl; made = refl; words = λ i h. apply-same (take allowance (p .due)) a b i l h }
+carried-same (answers s) a b l = record { reply = refl; made = refl; words = λ i h. h }
 
-unchanged-same : (a b : List ℕ) {r q : Said} → r ≡ q → SameOutcome a b (unchanged r a) (unchanged q b)
-unchanged-same a b e = record { reply = e; made = refl; words = λ i h. h }
+alike-length : (a b : List ℕ) (s : Option Shape) → AlikeFor a b s → length a ≡ length b
+alike-length a b none s = s .length-same
+alike-length a b (some d) l = l
 
--- Every call does the same on both arrays.
+-- Every call is to do the same on both arrays, and does.
+pub effect-local : (a b : List ℕ) (room : ℕ) (c : Call) → Alike a b c → effect a room c ≡ effect b room c
+unfolding effect
+effect-local a b room (Format D S allowance) l = ap (changes allowance) (format-local a b D S l)
+effect-local a b room (Get key) s = ap answers (get-local s key)
+effect-local a b room (Put key value allowance) s = ap (changes allowance) (put-local s key value)
+effect-local a b room (Remove key allowance) s = ap (changes allowance) (remove-local s key)
+effect-local a b room (Mend allowance) s = ap (changes allowance) (mend-local s)
+effect-local a b room ListCall s = ap answers (list-local s room)
+
 pub step-local : (a b : List ℕ) (room : ℕ) (c : Call) → Alike a b c → SameOutcome a b (step a room c) (step b room c)
 unfolding step
-step-local a b room (Format D S allowance) l = changed-same allowance a b (format-local a b D S l) l
-step-local a b room (Get key) s = unchanged-same a b (get-local s key)
-step-local a b room (Put key value allowance) s = changed-same allowance a b (put-local s key value) (s .length-same)
-step-local a b room (Remove key allowance) s = changed-same allowance a b (remove-local s key) (s .length-same)
-step-local a b room (Mend allowance) s = changed-same allowance a b (mend-local s) (s .length-same)
-step-local a b room ListCall s = unchanged-same a b (list-local s room)
+step-local a b room c s = rw (effect-local a b room c s) (carried-same (effect b room c) a b (alike-length a b (ownShape c) s))
+
+-- Only a call that lists looks at the length of the list array.
+pub effect-room : (a : List ℕ) (m n : ℕ) (c : Call) → lists c ≡ false → effect a m c ≡ effect a n c
+unfolding effect
+effect-room a m n (Format D S allowance) e = refl
+effect-room a m n (Get key) e = refl
+effect-room a m n (Put key value allowance) e = refl
+effect-room a m n (Remove key allowance) e = refl
+effect-room a m n (Mend allowance) e = refl
+effect-room a m n ListCall e = absurd (true≢false e)
+
+pub step-room : (a : List ℕ) (m n : ℕ) (c : Call) → lists c ≡ false → step a m c ≡ step a n c
+unfolding step
+step-room a m n c e = ap (λ (f : Effect). carriedOut f a) (effect-room a m n c e)

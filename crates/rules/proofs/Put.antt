@@ -14,13 +14,13 @@ use Rattle.stores.specs.Lists.{each}
 use Rattle.stores.specs.Store.{store, apply}
 use Rattle.stores.specs.Plan.{Plan, reply-only, _then_}
 use Rattle.stores.proofs.Lists.{first-some, first-none}
-use Rattle.rules.specs.declared.Refusal.{Refusal}
-use Rattle.rules.specs.declared.Refusal.the-variants.{NoStore, NoKey, Broken, Unmended, TooDeep, NoSegment}
+use Rattle.replies.specs.declared.Refusal.{Refusal}
+use Rattle.replies.specs.declared.Refusal.the-variants.{NoStore, NoKey, Broken, Unmended, TooDeep, NoSegment}
 use Rattle.rules.specs.Layout.{validHeader, depth, maxDepth, segments, segmentOf, localDepth, keyAddress, valueAddress}
 use Rattle.rules.specs.Keys.{index}
 use Rattle.rules.specs.Scan.{inRange, leadersValid, entriesAgree}
 use Rattle.rules.specs.Slots.{hit, firstUsable, Choice, found, into, full, chosen, choose, named, freeSegment}
-use Rattle.rules.specs.Replies.{Said, done, numberOf, refuse, unless, tested}
+use Rattle.replies.specs.Replies.{Said, done, numberOf, refuse, unless, tested}
 use Rattle.rules.specs.Get.{keyEntry, keySegment, keyTests}
 use Rattle.rules.specs.Split.{splitting}
 use Rattle.rules.specs.Put.{directoryTests, putTests, keyChoice, placed, intoFree, putUnused, unused, put}

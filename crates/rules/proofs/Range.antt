@@ -18,26 +18,31 @@ use Rattle.stores.proofs.Lists.{every-append, every-each, every-map, first-some
 use Rattle.stores.proofs.Stores.{word-elsewhere}
 use Rattle.stores.proofs.Lists.{every-take}
 use Rattle.stores.proofs.Plans.{after-cut, length-cut}
-use Rattle.rules.specs.declared.Refusal.{Refusal}
-use Rattle.rules.specs.declared.Refusal.the-variants.{NoStore, CutOff, BadShape}
+use Rattle.replies.specs.declared.Refusal.{Refusal}
+use Rattle.replies.specs.declared.Refusal.the-variants.{NoStore, CutOff, BadShape}
 use Rattle.rules.specs.declared.Call.{Call}
 use Rattle.rules.specs.declared.Call.the-variants.{Format, Get, Put, Remove, Mend, List as ListCall}
 use Rattle.rules.specs.Layout.{header, depth, maxDepth, segments, wordsFor, validShape, validHeader, entryAddress, entryAt, segmentOf, segmentAddress, keyAddress, valueAddress}
 use Rattle.rules.specs.Keys.{window}
 use Rattle.rules.specs.Scan.{leadingEntry}
 use Rattle.rules.specs.Slots.{hit, usable, firstUsable}
-use Rattle.rules.specs.Replies.{Said, done, refuse, tested}
+use Rattle.replies.specs.Replies.{Said, done, refuse, tested, changed}
 use Rattle.rules.specs.Format.{formatTests, formatStores, format}
 use Rattle.rules.specs.Get.{keyEntry, keySegment}
 use Rattle.rules.specs.Split.{splitting}
 use Rattle.rules.specs.Put.{putTests, put}
 use Rattle.rules.specs.Remove.{removeTests, clearedAt, remove}
 use Rattle.rules.specs.Mend.{mendTests, mendEntry, mending, mend}
-use Rattle.rules.specs.Step.{changed, step}
+use Rattle.rules.specs.Step.{Effect, changes, answers, effect, carriedOut, step}
 use Rattle.rules.proofs.Words.{ValidHeader, valid-header, entry-inside, key-inside, value-inside, directories-below}
 use Rattle.rules.proofs.Keys.{window-lt}
 use Rattle.rules.proofs.Put.{unless-none, passed, choice-found, choice-into, put-induction}
 use Rattle.rules.proofs.Split.{splitting-in-range, AfterSplit, after-split}
+
+-- A pair of D and S.
+pub record Shape : Type 0 where
+  pub D : ℕ
+  pub S : ℕ
 
 -- The store is below the words that D and S take.
 abbrev pub Below : (D S : ℕ) → Store → Type 0
@@ -148,43 +153,57 @@ mend-range a =
 -- ---- Every call
 
 -- Every call keeps the array's length.
-pub step-length : (a : List ℕ) (room : ℕ) (c : Call) → length ((step a room c) .after) ≡ length a
-unfolding step changed
-step-length a room (Format D S allowance) = length-cut (refuse CutOff) allowance (format a D S) a
-step-length a room (Get key) = refl
-step-length a room (Put key value allowance) = length-cut (refuse CutOff) allowance (put a key value) a
-step-length a room (Remove key allowance) = length-cut (refuse CutOff) allowance (remove a key) a
-step-length a room (Mend allowance) = length-cut (refuse CutOff) allowance (mend a) a
-step-length a room ListCall = refl
-
--- The number of words that a call may touch, from word 0 on: those that D and S of word 0 take; for a format, those that its
--- arguments take.
-unfoldable pub extent : List ℕ → Call → ℕ
-extent a (Format D S allowance) = wordsFor D S
-extent a (Get key) = wordsFor (maxDepth a) (segments a)
-extent a (Put key value allowance) = wordsFor (maxDepth a) (segments a)
-extent a (Remove key allowance) = wordsFor (maxDepth a) (segments a)
-extent a (Mend allowance) = wordsFor (maxDepth a) (segments a)
-extent a ListCall = wordsFor (maxDepth a) (segments a)
-
-changed-untouched : (allowance : ℕ) (p : Plan Said) (a : List ℕ) (D S i : ℕ) → Every (Below D S) (p .due) → wordsFor D S ≤ i
-    → word (changed allowance p a .after) i ≡ word a i
+pub carried-length : (e : Effect) (a : List ℕ) → length ((carriedOut e a) .after) ≡ length a
 unfolding changed
-changed-untouched allowance p a D S i h k =
+carried-length (changes allowance p) a = length-cut (refuse CutOff) allowance p a
+carried-length (answers s) a = refl
+
+pub step-length : (a : List ℕ) (room : ℕ) (c : Call) → length ((step a room c) .after) ≡ length a
+unfolding step
+step-length a room c = carried-length (effect a room c) a
+
+-- The D and S that a call brings with it: a format has some.
+abbrev pub ownShape : Call → Option Shape
+ownShape (Format D S allowance) = some (record { D = D; S = S })
+ownShape (Get key) = none
+ownShape (Put key value allowance) = none
+ownShape (Remove key allowance) = none
+ownShape (Mend allowance) = none
+ownShape ListCall = none
+
+-- The number of words that a call may touch, from word 0 on: those that its own D and S take, else those of word 0.
+abbrev pub extentOf : List ℕ → Option Shape → ℕ
+extentOf a none = wordsFor (maxDepth a) (segments a)
+extentOf a (some s) = wordsFor (s .D) (s .S)
+
+abbrev pub extent : List ℕ → Call → ℕ
+extent a c = extentOf a (ownShape c)
+
+-- The stores that are due by an effect.
+abbrev pub dueBy : Effect → List Store
+dueBy (changes allowance p) = p .due
+dueBy (answers s) = []
+
+-- No call's due store is beyond its extent.
+pub effect-range : (a : List ℕ) (room : ℕ) (c : Call) → Every (λ s. s .at < extent a c) (dueBy (effect a room c))
+unfolding effect
+effect-range a room (Format D S allowance) = format-range a D S
+effect-range a room (Get key) = Prim.tt
+effect-range a room (Put key value allowance) = put-range a key value
+effect-range a room (Remove key allowance) = remove-range a key
+effect-range a room (Mend allowance) = mend-range a
+effect-range a room ListCall = Prim.tt
+
+carried-untouched : (e : Effect) (a : List ℕ) (end i : ℕ) → Every (λ s. s .at < end) (dueBy e) → end ≤ i → word ((carriedOut e a) .after) i ≡ word a i
+unfolding changed
+carried-untouched (changes allowance p) a end i h k =
     rw (after-cut (refuse CutOff) allowance p a)
     (word-elsewhere (take allowance (p .due)) a i
-    (every-map (Below D S) (λ s. s .at ≡ i → ⊥) (λ s l e. omega arith) (take allowance (p .due))
-    (every-take (Below D S) allowance (p .due) h)))
+    (every-map (λ s. s .at < end) (λ s. s .at ≡ i → ⊥) (λ s l e. omega arith) (take allowance (p .due))
+    (every-take (λ s. s .at < end) allowance (p .due) h)))
+carried-untouched (answers s) a end i h k = refl
 
 -- No call changes a word beyond its extent.
 pub step-untouched : (a : List ℕ) (room : ℕ) (c : Call) (i : ℕ) → extent a c ≤ i → word ((step a room c) .after) i ≡ word a i
-unfolding step extent
-step-untouched a room (Format D S allowance) i h = changed-untouched allowance (format a D S) a D S i (format-range a D S) h
-step-untouched a room (Get key) i h = refl
-step-untouched a room (Put key value allowance) i h =
-    changed-untouched allowance (put a key value) a (maxDepth a) (segments a) i (put-range a key value) h
-step-untouched a room (Remove key allowance) i h =
-    changed-untouched allowance (remove a key) a (maxDepth a) (segments a) i (remove-range a key) h
-step-untouched a room (Mend allowance) i h =
-    changed-untouched allowance (mend a) a (maxDepth a) (segments a) i (mend-range a) h
-step-untouched a room ListCall i h = refl
+unfolding step
+step-untouched a room c i h = carried-untouched (effect a room c) a (extent a c) i (effect-range a room c) h

@@ -21,22 +21,23 @@ use Rattle.rules.specs.Scan.{leadersValid, entriesAgree}
 use Rattle.rules.specs.Get.{keyEntry, keySegment, keyTests}
 use Rattle.rules.specs.Split.{doubling, halving, doublingFor, splitting}
 use Rattle.rules.specs.Put.{directoryTests, putTests, put}
-use Rattle.rules.specs.Replies.{Said, refused, numberOf, unless, tested}
-use Rattle.rules.specs.declared.Refusal.{Refusal}
+use Rattle.replies.specs.Replies.{Said, refused, numberOf, unless, tested, changed}
+use Rattle.replies.specs.declared.Refusal.{Refusal}
 use Rattle.rules.specs.declared.Call.{Call}
 use Rattle.rules.specs.declared.Call.the-variants.{Format, Get, Put, Remove, Mend, List as ListCall}
 use Rattle.rules.specs.Format.{formatTests, format}
 use Rattle.rules.specs.Slots.{hit}
 use Rattle.rules.specs.Remove.{removeTests, clearedAt, remove}
 use Rattle.rules.specs.Mend.{mendTests, mend}
-use Rattle.rules.specs.Step.{changed, step}
-use Rattle.rules.proofs.Outcomes.{Complete, CutShort, changed-cases, refused-not-done, refused-inj}
+use Rattle.rules.specs.Step.{Effect, changes, answers, effect, carriedOut, step}
+use Rattle.replies.proofs.Outcomes.{Complete, CutShort, changed-cases, refused-not-done, refused-inj}
 use Rattle.rules.proofs.Words.{ValidHeader, header-valid, small, entry-inside, entry-inj, within-inside}
 use Rattle.rules.proofs.Keys.{index-lt, width-half, blockStart-bits, blockStart-le, in-block, block-same, bits-half}
 use Rattle.rules.proofs.Blocks.{bitsAt, Blocks, consistent-blocks, blocks-valid, blocks-agree, doubled-blocks, halvedDirectory, InBlock, Outside, place, halved-blocks}
 use Rattle.rules.proofs.Doubling.{Doubled, after-doubling, entry-of-key}
 use Rattle.rules.proofs.Halving.{Halved, after-halving}
 use Rattle.rules.proofs.Split.{Splittable, Ready, ready, AfterSplit, after-split}
+use Rattle.rules.proofs.Range.{dueBy}
 use Rattle.rules.proofs.Put.{Passed, tests-number, put-refused, Cases, put-induction}
 
 -- ---- A directory after a split is consistent
@@ -268,19 +269,32 @@ put-empty : (a : List ℕ) (key value n : ℕ) → (n ≤ 4) ⊎ (8 ≤ n) → p
 put-empty a key value n (inl h) says = put-early a key value n says h
 put-empty a key value n (inr h) says = absurd (omega (arith, put-says a key value n says))
 
+-- What a call says where none of its stores are made.
+abbrev pub replyBy : Effect → Said
+replyBy (changes allowance p) = p .reply
+replyBy (answers s) = s
+
+-- An effect that stores nothing where it says n.
+unchanged-carried : (e : Effect) (a : List ℕ) (n : ℕ) → (carriedOut e a) .reply ≡ refused n → (n ≡ 7 → ⊥)
+    → (replyBy e ≡ refused n → dueBy e ≡ []) → Unchanged a (carriedOut e a)
+unchanged-carried (changes allowance p) a n says not-cut empty = unchanged-by allowance p a n says not-cut empty
+unchanged-carried (answers s) a n e not-cut empty = record { after = refl; made = refl }
+
+-- A call that is refused by another refusal than 5, 6 and 7 has no store due.
+pub refusal-empty : (a : List ℕ) (room : ℕ) (c : Call) (n : ℕ) → (n ≤ 4) ⊎ (8 ≤ n) → replyBy (effect a room c) ≡ refused n
+    → dueBy (effect a room c) ≡ []
+unfolding effect format remove mend
+refusal-empty a room (Format D S allowance) n which = tested-empty (formatTests a D S) _ n (λ e. refused-not-done n [] (sym e))
+refusal-empty a room (Get key) n which = λ e. refl
+refusal-empty a room (Put key value allowance) n which = put-empty a key value n which
+refusal-empty a room (Remove key allowance) n which =
+    tested-empty (removeTests a key) _ n (cleared-no-refusal (keySegment a key) (hit a (keySegment a key) key) n)
+refusal-empty a room (Mend allowance) n which = tested-empty (mendTests a) _ n (λ e. refused-not-done n [] (sym e))
+refusal-empty a room ListCall n which = λ e. refl
+
 -- A refusal other than 5, 6 and 7 makes no store and changes no word.
 pub refusal-unchanged : (a : List ℕ) (room : ℕ) (c : Call) (n : ℕ) → step a room c .reply ≡ refused n → (n ≤ 4) ⊎ (8 ≤ n)
     → Unchanged a (step a room c)
-unfolding step format remove mend
-refusal-unchanged a room (Format D S allowance) n says which =
-    unchanged-by allowance (format a D S) a n says (not-seven n which)
-    (tested-empty (formatTests a D S) _ n (λ e. refused-not-done n [] (sym e)))
-refusal-unchanged a room (Get key) n says which = record { after = refl; made = refl }
-refusal-unchanged a room (Put key value allowance) n says which =
-    unchanged-by allowance (put a key value) a n says (not-seven n which) (put-empty a key value n which)
-refusal-unchanged a room (Remove key allowance) n says which =
-    unchanged-by allowance (remove a key) a n says (not-seven n which)
-    (tested-empty (removeTests a key) _ n (cleared-no-refusal (keySegment a key) (hit a (keySegment a key) key) n))
-refusal-unchanged a room (Mend allowance) n says which =
-    unchanged-by allowance (mend a) a n says (not-seven n which) (tested-empty (mendTests a) _ n (λ e. refused-not-done n [] (sym e)))
-refusal-unchanged a room ListCall n says which = record { after = refl; made = refl }
+unfolding step
+refusal-unchanged a room c n says which =
+    unchanged-carried (effect a room c) a n says (not-seven n which) (refusal-empty a room c n which)

@@ -9,7 +9,7 @@ use Rattle.stores.specs.Lists.{each}
 use Rattle.stores.specs.Store.{Store, store}
 use Rattle.rules.specs.declared.Call.{Call}
 use Rattle.rules.specs.declared.Call.the-variants.{Format, Get, Put, Remove, Mend, List as ListCall}
-use Rattle.rules.specs.Replies.{Said, done, absent, refused}
+use Rattle.replies.specs.Replies.{Said, done, absent, refused}
 use Rattle.rules.proofs.Table.{Names, Lookup, Row, state, allPass}
 use Rattle.rules.proofs.States.{F, P, fill, stands, names, page, missing, pages, row, sixteen, P263}
 

@@ -8,7 +8,7 @@ use Rattle.stores.specs.Lists.{each}
 use Rattle.stores.specs.Store.{Store, store}
 use Rattle.rules.specs.declared.Call.{Call}
 use Rattle.rules.specs.declared.Call.the-variants.{Format, Put, Mend}
-use Rattle.rules.specs.Replies.{Said, done, absent, refused}
+use Rattle.replies.specs.Replies.{Said, done, absent, refused}
 use Rattle.rules.proofs.Table.{Names, Lookup, Row, buckets, indexed, state, allPass}
 
 -- ---- What the rows are made of. All use D = 2 and, where not given, an allowance of 10,000; a page's value is ten times its key.

@@ -13,7 +13,7 @@ use Rattle.rules.specs.Layout.{depthIn, maxDepthIn, segmentsIn, markIn, 
 use Rattle.rules.specs.Keys.{bucket, bit, index, width, blockBits, blockStart, live, windowBucket, slotsOf, window}
 use Rattle.rules.specs.Scan.{inRange, validLeader, nextLeader, leader, leadersValid, entriesAgree}
 use Rattle.rules.specs.Slots.{hit, usable, firstUsable, chosen, choose, named, freeSegment}
-use Rattle.rules.specs.Replies.{Said, done, absent, refused, unless, tested, replied}
+use Rattle.replies.specs.Replies.{Said, numbersSame, saidSame, unless, tested, replied, changed}
 use Rattle.rules.specs.Format.{formatTests, formatStores, format}
 use Rattle.rules.specs.Get.{keyEntry, keySegment, keyTests, getTests, valueAtHit, get}
 use Rattle.rules.specs.Split.{doubling, moves, copySlot, copying, halfEntry, updating, halvingOf, halving, doublingFor, splitting}
@@ -21,7 +21,7 @@ use Rattle.rules.specs.Put.{directoryTests, putTests, keyChoice, placed,
 use Rattle.rules.specs.Remove.{removeTests, clearedAt, remove}
 use Rattle.rules.specs.Mend.{mendTests, mendEntry, mending, mend}
 use Rattle.rules.specs.Listing.{liveRecord, blockRecords, records, listTests, list}
-use Rattle.rules.specs.Step.{changed, step}
+use Rattle.rules.specs.Step.{effect, step}
 
 -- ---- Rows
 
@@ -51,25 +51,8 @@ pub data Row : Type 0 where
 
 -- A step that antt computes: an `unfolding` line that names it opens all definitions of the calls.
 unfoldable pub computed : List ℕ → (room : ℕ) → Call → Outcome Said
-unfolding each firstIn allBelow anyBelow apply exec cut depthIn maxDepthIn segmentsIn markIn header wordsFor validShape validHeader entryAddress segmentOf localDepth entry segmentAddress bucket bit index width blockBits blockStart live windowBucket slotsOf window inRange validLeader nextLeader leader leadersValid entriesAgree hit usable firstUsable chosen choose named freeSegment unless tested replied formatTests formatStores format keyEntry keySegment keyTests getTests valueAtHit get doubling moves copySlot copying halfEntry updating halvingOf halving doublingFor splitting directoryTests putTests keyChoice placed intoFree putUnused unused put removeTests clearedAt remove mendTests mendEntry mending mend liveRecord blockRecords records listTests list changed step
+unfolding each firstIn allBelow anyBelow apply exec cut depthIn maxDepthIn segmentsIn markIn header wordsFor validShape validHeader entryAddress segmentOf localDepth entry segmentAddress bucket bit index width blockBits blockStart live windowBucket slotsOf window inRange validLeader nextLeader leader leadersValid entriesAgree hit usable firstUsable chosen choose named freeSegment unless tested replied formatTests formatStores format keyEntry keySegment keyTests getTests valueAtHit get doubling moves copySlot copying halfEntry updating halvingOf halving doublingFor splitting directoryTests putTests keyChoice placed intoFree putUnused unused put removeTests clearedAt remove mendTests mendEntry mending mend liveRecord blockRecords records listTests list changed effect step
 computed a room call = step a room call
-
-numbersAgree : List ℕ → List ℕ → Bool
-numbersAgree [] [] = true
-numbersAgree [] (y ∷ ys) = false
-numbersAgree (x ∷ xs) [] = false
-numbersAgree (x ∷ xs) (y ∷ ys) = eqb x y && numbersAgree xs ys
-
-saidAgree : Said → Said → Bool
-saidAgree (done xs) (done ys) = numbersAgree xs ys
-saidAgree (done xs) absent = false
-saidAgree (done xs) (refused n) = false
-saidAgree absent (done ys) = false
-saidAgree absent absent = true
-saidAgree absent (refused n) = false
-saidAgree (refused m) (done ys) = false
-saidAgree (refused m) absent = false
-saidAgree (refused m) (refused n) = eqb m n
 
 -- The array after some calls, each made with no list array.
 afterCalls : List ℕ → List Call → List ℕ
@@ -88,24 +71,24 @@ entriesSeen a i (n ∷ ns) =
 
 lookupsSeen : List ℕ → List Lookup → Bool
 lookupsSeen a [] = true
-lookupsSeen a (l ∷ ls) = saidAgree (get a (l .key)) (l .said) && lookupsSeen a ls
+lookupsSeen a (l ∷ ls) = saidSame (get a (l .key)) (l .said) && lookupsSeen a ls
 
 outcomePasses : Outcome Said → Said → ℕ → List Store → List Names → List Lookup → Bool
 outcomePasses o said made words entries lookups =
-    (saidAgree (o .reply) said && eqb (o .made) made)
+    (saidSame (o .reply) said && eqb (o .made) made)
     && (wordsSeen (o .after) words && (entriesSeen (o .after) 0 entries && lookupsSeen (o .after) lookups))
 
 windowBuckets : (key : ℕ) → List ℕ
 windowBuckets key = each (λ b. windowBucket key b ∷ []) 4
 
 passes : Row → Bool
-passes (buckets key bs) = numbersAgree (windowBuckets key) bs
+passes (buckets key bs) = numbersSame (windowBuckets key) bs
 passes (indexed g key i) = eqb (index key g) i
 passes (state lent before damage room call said made words entries lookups) =
     outcomePasses (step (apply damage (afterCalls (replicate lent 0) before)) room call) said made words entries lookups
 
 -- Every row of the table passes.
 unfoldable pub allPass : List Row → Bool
-unfolding computed numbersAgree saidAgree afterCalls wordsSeen entriesSeen lookupsSeen outcomePasses windowBuckets passes
+unfolding computed numbersSame saidSame afterCalls wordsSeen entriesSeen lookupsSeen outcomePasses windowBuckets passes
 allPass [] = true
 allPass (r ∷ rs) = passes r && allPass rs

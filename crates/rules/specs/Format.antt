@@ -8,10 +8,10 @@ use lib.ListN.{length}
 use Rattle.stores.specs.Lists.{each}
 use Rattle.stores.specs.Store.{Store, store}
 use Rattle.stores.specs.Plan.{Plan}
-use Rattle.rules.specs.declared.Refusal.{Refusal}
-use Rattle.rules.specs.declared.Refusal.the-variants.{BadShape, TooShort}
+use Rattle.replies.specs.declared.Refusal.{Refusal}
+use Rattle.replies.specs.declared.Refusal.the-variants.{BadShape, TooShort}
 use Rattle.rules.specs.Layout.{validShape, wordsFor, header, segmentAddress, keyAddress}
-use Rattle.rules.specs.Replies.{Said, done, unless, tested}
+use Rattle.replies.specs.Replies.{Said, done, unless, tested}
 
 -- Format's tests: 8, then 9.
 unfoldable pub formatTests : List ℕ → (D S : ℕ) → Option Refusal

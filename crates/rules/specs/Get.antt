@@ -5,13 +5,13 @@ use mathlib.Core.Bool.{not}
 use mathlib.Core.List.{List, [], _∷_}
 use mathlib.Core.Option.{Option, none, some}
 use lib.Dec.{eqb}
-use Rattle.rules.specs.declared.Refusal.{Refusal}
-use Rattle.rules.specs.declared.Refusal.the-variants.{NoStore, NoKey, Broken}
+use Rattle.replies.specs.declared.Refusal.{Refusal}
+use Rattle.replies.specs.declared.Refusal.the-variants.{NoStore, NoKey, Broken}
 use Rattle.rules.specs.Layout.{validHeader, depth, maxDepth, segments, entryAt, segmentOf, segmentAddress, valueAt}
 use Rattle.rules.specs.Keys.{index}
 use Rattle.rules.specs.Scan.{inRange}
 use Rattle.rules.specs.Slots.{hit}
-use Rattle.rules.specs.Replies.{Said, done, absent, unless, replied}
+use Rattle.replies.specs.Replies.{Said, done, absent, unless, replied}
 
 -- The entry of the key, in the present directory.
 unfoldable pub keyEntry : List ℕ → (key : ℕ) → ℕ

@@ -3,7 +3,6 @@ pub mod Layout
 pub mod Keys
 pub mod Scan
 pub mod Slots
-pub mod Replies
 pub mod Format
 pub mod Get
 pub mod Split

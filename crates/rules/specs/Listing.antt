@@ -7,12 +7,12 @@ use mathlib.Core.Option.{Option, none}
 use lib.Dec.{leb, eqb}
 use lib.ListN.{length, drop}
 use Rattle.stores.specs.Lists.{pick, each}
-use Rattle.rules.specs.declared.Refusal.{Refusal}
-use Rattle.rules.specs.declared.Refusal.the-variants.{NoStore, ShortList}
+use Rattle.replies.specs.declared.Refusal.{Refusal}
+use Rattle.replies.specs.declared.Refusal.the-variants.{NoStore, ShortList}
 use Rattle.rules.specs.Layout.{validHeader, depth, maxDepth, entryAt, segmentOf, localDepth, segmentAddress, keyAt, valueAt}
 use Rattle.rules.specs.Keys.{blockBits, live}
 use Rattle.rules.specs.Scan.{leader}
-use Rattle.rules.specs.Replies.{Said, done, unless, replied}
+use Rattle.replies.specs.Replies.{Said, done, unless, replied}
 use Rattle.rules.specs.Put.{directoryTests}
 
 -- A record: a key and its value.

@@ -7,11 +7,11 @@ use lib.Dec.{eqb}
 use Rattle.stores.specs.Lists.{pick, each}
 use Rattle.stores.specs.Store.{Store, store}
 use Rattle.stores.specs.Plan.{Plan}
-use Rattle.rules.specs.declared.Refusal.{Refusal}
-use Rattle.rules.specs.declared.Refusal.the-variants.{NoStore, Broken}
+use Rattle.replies.specs.declared.Refusal.{Refusal}
+use Rattle.replies.specs.declared.Refusal.the-variants.{NoStore, Broken}
 use Rattle.rules.specs.Layout.{validHeader, depth, segments, entryAddress, entryAt}
 use Rattle.rules.specs.Scan.{leadingEntry, leadersValid}
-use Rattle.rules.specs.Replies.{Said, done, unless, tested}
+use Rattle.replies.specs.Replies.{Said, done, unless, tested}
 
 -- The tests of mend: 1, 3.
 unfoldable pub mendTests : List ℕ → Option Refusal

@@ -5,13 +5,13 @@ use mathlib.Core.List.{List, [], _∷_}
 use mathlib.Core.Option.{Option, none, some}
 use Rattle.stores.specs.Store.{store, apply}
 use Rattle.stores.specs.Plan.{Plan, reply-only, _then_}
-use Rattle.rules.specs.declared.Refusal.{Refusal}
-use Rattle.rules.specs.declared.Refusal.the-variants.{Broken, Unmended, TooDeep, NoSegment}
+use Rattle.replies.specs.declared.Refusal.{Refusal}
+use Rattle.replies.specs.declared.Refusal.the-variants.{Broken, Unmended, TooDeep, NoSegment}
 use Rattle.rules.specs.Layout.{depth, maxDepth, segments, localDepth, keyAddress, valueAddress}
 use Rattle.rules.specs.Keys.{index, blockBits}
 use Rattle.rules.specs.Scan.{leadersValid, entriesAgree}
 use Rattle.rules.specs.Slots.{Choice, found, into, full, choose, freeSegment}
-use Rattle.rules.specs.Replies.{Said, done, refuse, unless, tested}
+use Rattle.replies.specs.Replies.{Said, done, refuse, unless, tested}
 use Rattle.rules.specs.Get.{keyEntry, keySegment, keyTests}
 use Rattle.rules.specs.Split.{splitting}
 

@@ -5,10 +5,10 @@ use mathlib.Core.List.{List, [], _∷_}
 use mathlib.Core.Option.{Option, none, some}
 use Rattle.stores.specs.Store.{store}
 use Rattle.stores.specs.Plan.{Plan, reply-only}
-use Rattle.rules.specs.declared.Refusal.{Refusal}
+use Rattle.replies.specs.declared.Refusal.{Refusal}
 use Rattle.rules.specs.Layout.{keyAddress}
 use Rattle.rules.specs.Slots.{hit}
-use Rattle.rules.specs.Replies.{Said, done, absent, tested}
+use Rattle.replies.specs.Replies.{Said, done, absent, tested}
 use Rattle.rules.specs.Get.{keySegment, keyTests}
 use Rattle.rules.specs.Put.{directoryTests}
 

@@ -4,7 +4,7 @@ use borrow.Author.Needs.{needs}
 use native.Mathlib.Omega.{arith}
 use borrow.Author.Tests.{not-true, not-false}
 use mathlib.Core.Path.{sym, ap, _∙_}
-use Rattle.rules.specs.Replies.{saidBy}
+use Rattle.replies.specs.Replies.{saidBy}
 use Rattle.directory.proofs.Shapes.{shape}
 use Rattle.index.proofs.Calls.{format-bad-shape, format-too-short, format-done}
 use Rattle.index.proofs.format.Statement.{statement}

@@ -7,7 +7,7 @@ use mathlib.Core.Path.{_≡_, sym, ap, _∙_}
 use mathlib.Core.List.{[], _∷_}
 use lib.ListN.{length}
 use Rattle.stores.specs.Store.{word}
-use Rattle.rules.specs.Replies.{saidBy, done}
+use Rattle.replies.specs.Replies.{saidBy, done}
 use Rattle.directory.proofs.Shapes.{bounds}
 use Rattle.directory.proofs.Answers.{header-valid, header-not-valid}
 use Rattle.rules.proofs.Range.{hit-slot}

@@ -4,7 +4,7 @@ use borrow.Author.Needs.{needs}
 use mathlib.Core.Path.{ap, _∙_}
 use mathlib.Core.List.{[], _∷_}
 use Prim.Native.Nat.{ℕ}
-use Rattle.rules.specs.Replies.{saidBy, done}
+use Rattle.replies.specs.Replies.{saidBy, done}
 use Rattle.directory.proofs.Answers.{header-valid, header-not-valid, verdict-broken, verdict-unmended, verdict-consistent}
 use Rattle.index.proofs.Listings.{list-no-store, list-broken, list-unmended, list-short, list-passed, list-refused, list-done}
 use Rattle.index.proofs.list.Statement.{statement}

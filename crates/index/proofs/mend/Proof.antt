@@ -4,7 +4,7 @@ use borrow.Author.Needs.{needs}
 use native.Mathlib.Omega.{arith}
 use mathlib.Core.Path.{ap}
 use mathlib.Core.Logic.{⊎-elim}
-use Rattle.rules.specs.Replies.{saidBy}
+use Rattle.replies.specs.Replies.{saidBy}
 use Rattle.directory.proofs.Answers.{header-valid, header-not-valid, verdict-broken}
 use Rattle.index.proofs.Calls.{verdict-valid, mend-no-store, mend-broken, mend-done}
 use Rattle.index.proofs.mend.Statement.{statement}

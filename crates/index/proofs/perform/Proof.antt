@@ -1,5 +1,6 @@
 -- `index::perform` meets its contract.
 -- Assumes nothing.
+use mathlib.Core.Path.{refl}
 use borrow.Author.Needs.{needs}
 use Rattle.index.proofs.Performs.{performed}
 use Rattle.index.proofs.perform.Statement.{statement}
@@ -45,31 +46,31 @@ same-length : tie.Need-same-length
 same-length c = search needs
 
 returns : tie.Need-returns
-returns c = performed _ _ _ _ (c .before .before .before .before .before .call .given .1) Prim.tt (c .before .before .format .ensures)
+returns c = performed _ _ _ _ (c .before .before .before .before .before .call .given .1) refl (c .before .before .format .ensures)
 
 same-length-2 : tie.Need-same-length-2
 same-length-2 c = search needs
 
 returns-2 : tie.Need-returns-2
-returns-2 c = performed _ _ _ _ (c .before .before .before .call2 .given .1) Prim.tt (c .get .ensures)
+returns-2 c = performed _ _ _ _ (c .before .before .before .call2 .given .1) refl (c .get .ensures)
 
 same-length-3 : tie.Need-same-length-3
 same-length-3 c = search needs
 
 returns-3 : tie.Need-returns-3
-returns-3 c = performed _ _ _ _ (c .before .before .before .before .before .call3 .given .1) Prim.tt (c .before .before .put .ensures)
+returns-3 c = performed _ _ _ _ (c .before .before .before .before .before .call3 .given .1) refl (c .before .before .put .ensures)
 
 same-length-4 : tie.Need-same-length-4
 same-length-4 c = search needs
 
 returns-4 : tie.Need-returns-4
-returns-4 c = performed _ _ _ _ (c .before .before .before .before .before .call4 .given .1) Prim.tt (c .before .before .remove .ensures)
+returns-4 c = performed _ _ _ _ (c .before .before .before .before .before .call4 .given .1) refl (c .before .before .remove .ensures)
 
 same-length-5 : tie.Need-same-length-5
 same-length-5 c = search needs
 
 returns-5 : tie.Need-returns-5
-returns-5 c = performed _ _ _ _ (c .before .before .before .before .before .call5 .given .1) Prim.tt (c .before .before .mend .ensures)
+returns-5 c = performed _ _ _ _ (c .before .before .before .before .before .call5 .given .1) refl (c .before .before .mend .ensures)
 
 same-length-6 : tie.Need-same-length-6
 same-length-6 c = search needs

@@ -6,7 +6,7 @@ use Prim.Native.Nat.{_+_, _≤_, _<_}
 use mathlib.Core.Path.{sym, ap, _∙_}
 use mathlib.Core.Bool.{true≢false}
 use lib.ListN.{length}
-use Rattle.rules.specs.Replies.{saidBy}
+use Rattle.replies.specs.Replies.{saidBy}
 use Rattle.directory.proofs.Shapes.{bounds}
 use Rattle.index.proofs.Checks.{check-passed, check-refused, passed-range}
 use Rattle.rules.proofs.Range.{hit-slot}

@@ -6,7 +6,7 @@ use native.Mathlib.Omega.{arith}
 use borrow.Author.Needs.{needs}
 use mathlib.Core.List.{append-assoc}
 use Rattle.stores.proofs.Written.{written-append}
-use Rattle.rules.specs.Replies.{saidBy}
+use Rattle.replies.specs.Replies.{saidBy}
 use Rattle.desk_text.specs.Parts.{tab, lineFeed}
 use Rattle.desk_text.specs.Number.{decimal}
 use Rattle.desk_text.specs.Output.{headText, saidText, endText, answerLine}

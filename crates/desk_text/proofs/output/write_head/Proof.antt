@@ -3,7 +3,7 @@
 use mathlib.Core.List.{[], _∷_}
 use borrow.Author.Needs.{needs}
 use Rattle.stores.proofs.Written.{written-append}
-use Rattle.rules.specs.Replies.{saidBy}
+use Rattle.replies.specs.Replies.{saidBy}
 use Rattle.desk_text.specs.Output.{replyText}
 use Rattle.desk_text.proofs.output.write_head.Statement.{statement}
 use Rattle.desk_text.proofs.output.write_head.Tie as tie

@@ -14,10 +14,9 @@ use Rattle.stores.specs.Store.{apply, exec}
 use Rattle.stores.specs.Plan.{Plan, Outcome, reply-only}
 use Rattle.stores.proofs.Tests.{cases}
 use Rattle.stores.proofs.Plans.{cut-whole, cut-short}
-use Rattle.rules.specs.declared.Refusal.{Refusal}
-use Rattle.rules.specs.declared.Refusal.the-variants.{CutOff}
-use Rattle.rules.specs.Replies.{Said, done, refused, refuse, tested, replied}
-use Rattle.rules.specs.Step.{changed}
+use Rattle.replies.specs.declared.Refusal.{Refusal}
+use Rattle.replies.specs.declared.Refusal.the-variants.{CutOff}
+use Rattle.replies.specs.Replies.{Said, done, refused, refuse, tested, replied, changed}
 
 -- ---- Cut off or not
 

@@ -6,7 +6,7 @@ use mathlib.Core.List.{[], _∷_}
 use mathlib.Core.Option.{Option, none, some}
 use lib.Dec.{eqb}
 use Rattle.stores.specs.Lists.{pick}
-use Rattle.rules.specs.Replies.{Said, done, absent, refused}
+use Rattle.replies.specs.Replies.{Said, done, absent}
 
 -- The abstract map (document 01: the plain table): for each key its value, or none.
 abbrev pub Map : Type 0
@@ -27,13 +27,8 @@ pub data View : Type 0 where
   puts : (key value : ℕ) → View
   removes : (key : ℕ) → View
   mends : View
-  lists : View
-
--- A reply is done.
-abbrev pub isDone : Said → Bool
-isDone (done values) = true
-isDone absent = false
-isDone (refused n) = false
+  -- any other call: it tells the map nothing
+  keeps : View
 
 -- The map after a call, told whether its reply was done: a done put sets its key's value, a done remove takes it away, any
 -- other reply and any other call leave the map as it was.
@@ -45,7 +40,7 @@ fed (removes key) false m = m
 fed formats d m = m
 fed (gets key) d m = m
 fed mends d m = m
-fed lists d m = m
+fed keeps d m = m
 
 -- What the map says of a key: its value, or absent.
 abbrev pub mapSays : Option ℕ → Said

@@ -1,0 +1,4 @@
+-- The laws of replies.
+pub mod Outcomes
+pub mod Sayable
+pub mod Samples

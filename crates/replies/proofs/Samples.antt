@@ -1,0 +1,40 @@
+-- The numbers of document 01's table, what counts as done, and calls cut off: computed from the definitions.
+-- Assumes nothing.
+use Prim.Native.Nat.{ℕ}
+use mathlib.Core.Path.{_≡_, refl}
+use mathlib.Core.Bool.{Bool, true, false, not, _&&_}
+use mathlib.Core.List.{List, [], _∷_}
+use mathlib.Core.Option.{none, some}
+use lib.Dec.{eqb}
+use Rattle.stores.specs.Store.{store, apply, exec}
+use Rattle.stores.specs.Plan.{Plan, Outcome, cut}
+use Rattle.replies.specs.declared.Refusal.the-variants.{NoStore, NoKey, Broken, Unmended, TooDeep, NoSegment, CutOff, BadShape, TooShort, ShortList}
+use Rattle.replies.specs.Replies.{numberOf, Said, done, absent, refused, isDone, isRefusal, numbersSame, saidSame, unless, tested, changed}
+
+pub numbers : List ℕ
+numbers =
+    numberOf NoStore ∷ numberOf NoKey ∷ numberOf Broken ∷ numberOf Unmended ∷ numberOf TooDeep ∷ numberOf NoSegment ∷ numberOf CutOff
+    ∷ numberOf BadShape ∷ numberOf TooShort ∷ numberOf ShortList ∷ []
+
+pub numbers-are : numbers ≡ 1 ∷ 2 ∷ 3 ∷ 4 ∷ 5 ∷ 6 ∷ 7 ∷ 8 ∷ 9 ∷ 10 ∷ []
+unfolding numbers
+numbers-are = refl
+
+-- Two stores are due, and done is said behind them.
+two : Plan Said
+two = record { due = store 0 5 ∷ store 1 6 ∷ []; reply = done [] }
+
+gives : Outcome Said → Said → ℕ → List ℕ → Bool
+gives o said made after = saidSame (o .reply) said && (eqb (o .made) made && numbersSame (o .after) after)
+
+pub sample : Bool
+sample =
+    (isDone (done []) && (not (isDone absent) && (not (isDone (refused 7)) && (isRefusal 7 (refused 7) && not (isRefusal 7 (refused 8))))))
+    && (gives (changed 2 two (0 ∷ 0 ∷ [])) (done []) 2 (5 ∷ 6 ∷ [])
+    && (gives (changed 1 two (0 ∷ 0 ∷ [])) (refused 7) 1 (5 ∷ 0 ∷ [])
+    && (gives (changed 0 two (0 ∷ 0 ∷ [])) (refused 7) 0 (0 ∷ 0 ∷ [])
+    && gives (changed 0 (tested (unless true NoKey (unless false Broken (some Unmended))) two) (0 ∷ 0 ∷ [])) (refused 3) 0 (0 ∷ 0 ∷ []))))
+
+pub sample-passes : sample ≡ true
+unfolding sample two gives numbersSame saidSame unless tested changed cut exec apply
+sample-passes = refl

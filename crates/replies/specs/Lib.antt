@@ -1,0 +1,2 @@
+-- What calls answer, and what their replies mean.
+pub mod Replies

@@ -1,0 +1,50 @@
+// What the calls of a store answer: refusals and their numbers, replies, answers. It knows no store.
+ghost use mathlib.Core.Path.{_≡_};
+ghost use Rattle.replies.specs.Replies.{numberOf};
+
+// Document 01, 'Replies that say no': the ten refusals, in the order of its table.
+pub enum Refusal {
+    NoStore,
+    NoKey,
+    Broken,
+    Unmended,
+    TooDeep,
+    NoSegment,
+    CutOff,
+    BadShape,
+    TooShort,
+    ShortList,
+}
+
+// The reply of a call: done; done with a value, which is what a get found or how many records a
+// list wrote; absent, for get and remove; or a refusal.
+pub enum Reply {
+    Done,
+    Value(u64),
+    Absent,
+    Refused(Refusal),
+}
+
+// The answer of a call: its reply, and the number of stores it made.
+pub struct Answer {
+    pub reply: Reply,
+    pub stores: u32,
+}
+
+// The number of a refusal in document 01's table.
+pub fn refusal_number(refusal: Refusal) -> u32
+    ensures { λ r. ⌜ r ≡ numberOf refusal ⌝ }
+{
+    match refusal {
+        Refusal::NoStore => 1,
+        Refusal::NoKey => 2,
+        Refusal::Broken => 3,
+        Refusal::Unmended => 4,
+        Refusal::TooDeep => 5,
+        Refusal::NoSegment => 6,
+        Refusal::CutOff => 7,
+        Refusal::BadShape => 8,
+        Refusal::TooShort => 9,
+        Refusal::ShortList => 10,
+    }
+}

@@ -1,0 +1,67 @@
+-- What the claim says of a run, the computed test finds.
+-- Assumes nothing.
+use Prim.Native.Nat.{ℕ}
+use mathlib.Core.Path.{_≡_, refl}
+use mathlib.Core.Bool.{true, false, not}
+use mathlib.Core.List.{List, [], _∷_}
+use mathlib.Core.Logic.{⊎-elim}
+use borrow.Author.Tests.{eq-eqb}
+use Rattle.stores.proofs.Tests.{cases, and-true, or-right}
+use Rattle.replies.specs.Replies.{Said, done, absent, refused, numbersSame, saidSame}
+use Rattle.runs.specs.Map.{Map, View, formats, gets, puts, removes, mends, keeps, mapSays}
+use Rattle.runs.specs.Run.{Machine, Point, claimedAtEnd, claimed, next, finish, EachCall, GetAgrees, CallAgrees, AgreesWithMap}
+use Rattle.runs.specs.Check.{getAgrees, callsAgree, getsAgree, agrees}
+
+numbers-same : (xs : List ℕ) → numbersSame xs xs ≡ true
+unfolding numbersSame
+numbers-same [] = refl
+numbers-same (x ∷ xs) = and-true (eq-eqb x x refl) (numbers-same xs)
+
+said-same : (s : Said) → saidSame s s ≡ true
+unfolding saidSame
+said-same (done xs) = numbers-same xs
+said-same absent = refl
+said-same (refused n) = eq-eqb n n refl
+
+-- A get of a claimed key that says what the map says passes the test.
+get-checked : (key : ℕ) (said : Said) (m : Map) → (claimed key ≡ true → said ≡ mapSays (m key)) → getAgrees (gets key) said m ≡ true
+unfolding getAgrees
+get-checked key said m h =
+    ⊎-elim
+    (λ (c : claimed key ≡ true). or-right (not (claimed key)) (rw (h c) (said-same (mapSays (m key)))))
+    (λ (c : claimed key ≡ false). rw c)
+    (cases (claimed key))
+
+call-checked : (view : View) (said : Said) (m : Map) → GetAgrees view said m → getAgrees view said m ≡ true
+unfolding getAgrees
+call-checked formats said m h = refl
+call-checked (gets key) said m h = get-checked key said m h
+call-checked (puts key value) said m h = refl
+call-checked (removes key) said m h = refl
+call-checked mends said m h = refl
+call-checked keeps said m h = refl
+
+calls-checked : (M : Machine) (p : Point) (calls : List (M .Call)) → EachCall M (CallAgrees M) p calls → callsAgree M p calls ≡ true
+unfolding callsAgree EachCall
+calls-checked M p [] h = refl
+calls-checked M p (c ∷ cs) h = and-true (call-checked _ _ (p .map) (h .0)) (calls-checked M (next M p c) cs (h .1))
+
+ends-checked : (lookup : List ℕ → ℕ → Said) (p : Point) (keys : List ℕ)
+    → ((key : ℕ) → claimed key ≡ true → lookup (p .array) key ≡ mapSays (p .map key)) → getsAgree lookup p keys ≡ true
+unfolding getsAgree
+ends-checked lookup p [] h = refl
+ends-checked lookup p (key ∷ keys) h = and-true (get-checked key (lookup (p .array) key) (p .map) (h key)) (ends-checked lookup p keys h)
+
+-- For a lookup that says what a get of the store says, and for any keys.
+pub claim-checked : (M : Machine) (lookup : List ℕ → ℕ → Said) → ((a : List ℕ) (key : ℕ) → M .Says a key (lookup a key))
+    → (keys : List ℕ) (p : Point) (calls : List (M .Call)) → AgreesWithMap M p calls → agrees M lookup keys p calls ≡ true
+unfolding agrees
+claim-checked M lookup so keys p calls h =
+    and-true (calls-checked M p calls (h .0))
+    (⊎-elim
+    (λ (c : claimedAtEnd (finish M p calls .needsRecovery) ≡ true).
+    or-right (not (claimedAtEnd (finish M p calls .needsRecovery)))
+    (ends-checked lookup (finish M p calls) keys
+    (λ key k. h .1 c key k (lookup (finish M p calls .array) key) (so (finish M p calls .array) key))))
+    (λ (c : claimedAtEnd (finish M p calls .needsRecovery) ≡ false). rw c)
+    (cases (claimedAtEnd (finish M p calls .needsRecovery))))

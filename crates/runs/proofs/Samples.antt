@@ -1,0 +1,109 @@
+-- Runs that antt computes from the definitions, of a store that has no code: each call carries what it has said and the array
+-- that it has left, and a lookup of key k says word k, or absent where that is 0. This file imports no proof.
+-- Assumes nothing.
+use Prim.Native.Nat.{ℕ}
+use mathlib.Core.Path.{_≡_, refl}
+use mathlib.Core.Bool.{Bool, true, false, not, _&&_, _||_}
+use mathlib.Core.List.{List, [], _∷_}
+use lib.Dec.{eqb}
+use Rattle.stores.specs.Lists.{pick}
+use Rattle.stores.specs.Store.{word}
+use Rattle.replies.specs.Replies.{Said, done, absent, refused, numbersSame, saidSame}
+use Rattle.runs.specs.Map.{View, formats, gets, puts, removes, mends, keeps, empty, updated, fed}
+use Rattle.runs.specs.Run.{Machine, start, mayFollow, isRecovery, recoveryAfter, claimedAtEnd, claimed, next, finish, validRun}
+use Rattle.runs.specs.Check.{getAgrees, callsAgree, getsAgree, agrees}
+
+-- A call as it was.
+pub record Was : Type 0 where
+  pub view : View
+  pub said : Said
+  pub after : List ℕ
+
+abbrev was : View → Said → List ℕ → Was
+was view said after = record { view = view; said = said; after = after }
+
+lookup : List ℕ → ℕ → Said
+lookup a key = pick (eqb (word a key) 0) absent (done (word a key ∷ []))
+
+-- The store of such calls; `cuts` says whether a cut begins the need of recovery.
+abbrev told : (cuts : Bool) → Machine
+told cuts =
+    record {
+      Call = Was;
+      Made = λ a c. Unit {0};
+      step = λ a c. record { reply = c .said; made = 0; after = c .after };
+      view = λ c. c .view;
+      Says = λ a key said. said ≡ lookup a key;
+      cutNeedsRecovery = cuts;
+    }
+
+-- A run from three words of 0, the keys asked for at its end, whether it is valid, and whether it agrees with the map.
+pub record Sample : Type 0 where
+  pub cuts : Bool
+  pub calls : List Was
+  pub valid : Bool
+  pub agreed : Bool
+
+same : Bool → Bool → Bool
+same x y = x && y || not x && not y
+
+passes : Sample → Bool
+passes s =
+    same (validRun (told (s .cuts)) (start (0 ∷ 0 ∷ 0 ∷ [])) (s .calls)) (s .valid)
+    && same (agrees (told (s .cuts)) lookup (0 ∷ 1 ∷ 2 ∷ []) (start (0 ∷ 0 ∷ 0 ∷ [])) (s .calls)) (s .agreed)
+
+pub allPass : List Sample → Bool
+allPass [] = true
+allPass (s ∷ ss) = passes s && allPass ss
+
+-- Arrays with nothing, with 5 for key 1, with 6 for it, and with 7 for key 0.
+abbrev none0 : List ℕ
+none0 = 0 ∷ 0 ∷ 0 ∷ []
+
+abbrev five : List ℕ
+five = 0 ∷ 5 ∷ 0 ∷ []
+
+abbrev six : List ℕ
+six = 0 ∷ 6 ∷ 0 ∷ []
+
+abbrev seven0 : List ℕ
+seven0 = 7 ∷ 0 ∷ 0 ∷ []
+
+pub samples : List Sample
+samples =
+    record { cuts = true; calls = []; valid = true; agreed = true }
+    -- a done put is told to the map, and a done remove; a lost page and an invented one are seen
+    ∷ record { cuts = true; calls = was (puts 1 5) (done []) five ∷ was (gets 1) (done (5 ∷ [])) five ∷ []; valid = true; agreed = true }
+    ∷ record { cuts = true; calls = was (puts 1 5) (done []) none0 ∷ []; valid = true; agreed = false }
+    ∷ record { cuts = true; calls = was (puts 1 5) (done []) five ∷ was (gets 1) absent five ∷ []; valid = true; agreed = false }
+    ∷ record { cuts = true; calls = was (puts 1 5) (done []) five ∷ was (removes 1) (done []) none0 ∷ []; valid = true; agreed = true }
+    ∷ record { cuts = true; calls = was (puts 1 5) (done []) five ∷ was (removes 1) (done []) five ∷ []; valid = true; agreed = false }
+    ∷ record { cuts = true; calls = was keeps (done []) five ∷ []; valid = true; agreed = false }
+    -- a refused put is not told, nor one that is cut off
+    ∷ record { cuts = true; calls = was (puts 1 5) (refused 6) none0 ∷ []; valid = true; agreed = true }
+    ∷ record { cuts = true; calls = was (puts 1 5) (refused 6) five ∷ []; valid = true; agreed = false }
+    ∷ record { cuts = true; calls = was (puts 1 5) (refused 7) none0 ∷ was mends (done []) none0 ∷ []; valid = true; agreed = true }
+    -- key 0 is not claimed
+    ∷ record { cuts = true; calls = was (gets 0) (refused 2) seven0 ∷ []; valid = true; agreed = true }
+    -- where a mend is awaited nothing is claimed at the end, and only mends and refused formats follow
+    ∷ record { cuts = true; calls = was (puts 1 5) (refused 7) six ∷ []; valid = true; agreed = true }
+    ∷ record { cuts = true; calls = was (puts 1 5) (refused 7) six ∷ was mends (refused 7) six ∷ was formats (refused 9) six ∷ []; valid = true; agreed = true }
+    ∷ record { cuts = true; calls = was (puts 1 5) (refused 7) none0 ∷ was (gets 1) absent none0 ∷ []; valid = false; agreed = true }
+    ∷ record { cuts = true; calls = was (puts 1 5) (refused 7) none0 ∷ was (puts 1 5) (done []) five ∷ []; valid = false; agreed = true }
+    ∷ record { cuts = true; calls = was (removes 1) (refused 7) none0 ∷ was (removes 1) absent none0 ∷ []; valid = false; agreed = true }
+    ∷ record { cuts = true; calls = was (puts 1 5) (refused 7) none0 ∷ was keeps (done []) none0 ∷ []; valid = false; agreed = true }
+    -- a done mend ends the need, and a refused one does not
+    ∷ record { cuts = true; calls = was (puts 1 5) (refused 7) none0 ∷ was mends (done []) none0 ∷ was (gets 1) absent none0 ∷ []; valid = true; agreed = true }
+    ∷ record { cuts = true; calls = was (puts 1 5) (refused 7) none0 ∷ was mends (refused 3) none0 ∷ was (gets 1) absent none0 ∷ []; valid = false; agreed = true }
+    -- a format that is done or cut off is in no run
+    ∷ record { cuts = true; calls = was formats (done []) none0 ∷ []; valid = false; agreed = true }
+    ∷ record { cuts = true; calls = was formats (refused 7) none0 ∷ []; valid = false; agreed = true }
+    ∷ record { cuts = true; calls = was formats (refused 8) none0 ∷ []; valid = true; agreed = true }
+    -- a store whose cuts need no recovery: any call may follow, and the claim stands
+    ∷ record { cuts = false; calls = was (puts 1 5) (refused 7) none0 ∷ was (gets 1) absent none0 ∷ []; valid = true; agreed = true }
+    ∷ record { cuts = false; calls = was (puts 1 5) (refused 7) five ∷ []; valid = true; agreed = false }
+    ∷ []
+
+pub samples-pass : allPass samples ≡ true
+unfolding lookup same passes allPass samples numbersSame saidSame empty updated fed mayFollow isRecovery recoveryAfter claimedAtEnd claimed next finish validRun getAgrees callsAgree getsAgree agrees
+samples-pass = refl
