@@ -14,11 +14,11 @@ use Rattle.replies.specs.declared.Answer.{Answer}
 use Rattle.rules.specs.declared.Call.{Call}
 use Rattle.replies.specs.Replies.{saidBy}
 use Rattle.rules.specs.Step.{Performed}
-use Rattle.desk_text.specs.Parts.{linesOf}
-use Rattle.desk_text.specs.Line.{letterOf, callOf}
-use Rattle.desk_text.specs.Script.{NextLine}
+use Rattle.text.specs.Parts.{linesOf}
+use Rattle.desk_text.specs.Line.{spoken, callOf}
+use Rattle.text.specs.Script.{NextLine}
 use Rattle.desk_text.specs.Output.{answerLine, otherLine, tooLongLine, lineRoom}
-use Rattle.desk_text.proofs.Lines.{lines-none}
+use Rattle.text.proofs.Lines.{lines-none}
 use Rattle.desk_text.proofs.Texts.{length-answer}
 use Rattle.desk_run.specs.Run.{mostBytes, listWords, indexWords, ranCall, ranLines, ran, deskOutput}
 use Rattle.desk_run.specs.Progress.{LineRan, LinesRan, Onward, OutputWritten}
@@ -30,14 +30,14 @@ module _ (line : List ℕ) (room : ℕ) (a : List ℕ) (at : ℕ) (out : List �
   unfolding ranCall
   line-other e w = record { text = rw e w; words = rw e; short = omega (arith, w .behind) }
 
-  pub line-called : (call : Call) (l : List ℕ) (answer : Answer) (a′ l′ : List ℕ) (letter : ℕ) → callOf line ≡ some call → room ≡ length l
-      → letter ≡ letterOf call → Performed call a l answer a′ l′
+  pub line-called : (letter : ℕ) (call : Call) (l : List ℕ) (answer : Answer) (a′ l′ : List ℕ) → callOf line ≡ some (spoken letter call) → room ≡ length l
+      → Performed call a l answer a′ l′
       → Written (answerLine letter (saidBy (answer .reply)) (answer .stores)) at out next out′
       → LineRan line room a at out next a′ out′
   unfolding ranCall
-  line-called call l answer a′ l′ letter e size same p w =
+  line-called letter call l answer a′ l′ e size p w =
       record {
-        text = rw (e, size) (rw (same, p .reply, p .stores) at w);
+        text = rw (e, size) (rw (p .reply, p .stores) at w);
         words = rw (e, size) (p .words);
         short = omega (arith, w .behind, length-answer letter (answer .reply) (answer .stores));
       }

@@ -5,8 +5,8 @@ use Prim.Native.Nat.{ℕ}
 use mathlib.Core.Path.{_≡_, refl}
 use mathlib.Core.List.{List, [], _∷_}
 use Rattle.rules.proofs.Table.{computed}
-use Rattle.desk_text.specs.Parts.{startedBy, parts, nonempty, linesOf, fieldsOf}
-use Rattle.desk_text.specs.Number.{isDigit, allDigits, valueFrom, number, spelled, decimal}
+use Rattle.text.specs.Parts.{startedBy, parts, nonempty, linesOf, fieldsOf}
+use Rattle.text.specs.Number.{isDigit, allDigits, valueFrom, number, spelled, decimal}
 use Rattle.desk_text.specs.Line.{both, numbersOf, allowed, callWith, calledWith, callOfFields, callOf}
 use Rattle.desk_text.specs.Output.{valuesText, answerLine}
 use Rattle.desk_run.specs.Run.{ranCall, ranLines, ran, deskOutput}

@@ -5,7 +5,7 @@ use mathlib.Core.Path.{_≡_}
 use mathlib.Core.List.{List, _++_}
 use lib.ListN.{length, drop}
 use Rattle.stores.specs.Written.{Written}
-use Rattle.desk_text.specs.Parts.{linesOf}
+use Rattle.text.specs.Parts.{linesOf}
 use Rattle.desk_text.specs.Line.{callOf}
 use Rattle.desk_text.specs.Output.{lineRoom}
 use Rattle.desk_run.specs.Run.{ranCall, ranLines, deskOutput}

@@ -7,11 +7,10 @@ use lib.Dec.{leb}
 use lib.ListN.{length, replicate}
 use Rattle.stores.specs.Lists.{pick}
 use Rattle.stores.specs.Plan.{Outcome}
-use Rattle.rules.specs.declared.Call.{Call}
 use Rattle.replies.specs.Replies.{Said}
 use Rattle.rules.specs.Step.{step}
-use Rattle.desk_text.specs.Parts.{linesOf}
-use Rattle.desk_text.specs.Line.{letterOf, callOf}
+use Rattle.text.specs.Parts.{linesOf}
+use Rattle.desk_text.specs.Line.{Spoken, callOf}
 use Rattle.desk_text.specs.Output.{answerLine, otherLine, tooLongLine}
 
 -- The most bytes of a script.
@@ -23,14 +22,14 @@ pub record Ran : Type 0 where
   pub text : List ℕ
   pub words : List ℕ
 
--- A call that has said and left this.
-abbrev pub answered : Call → Outcome Said → Ran
-answered call o = record { text = answerLine (letterOf call) (o .reply) (o .made); words = o .after }
+-- A line's call that has said and left this.
+abbrev pub answered : (letter : ℕ) → Outcome Said → Ran
+answered letter o = record { text = answerLine letter (o .reply) (o .made); words = o .after }
 
 -- One line on the index array a, with a list array of `room` words: a call is made, any other line prints a question mark.
-unfoldable pub ranCall : (room : ℕ) → List ℕ → Option Call → Ran
+unfoldable pub ranCall : (room : ℕ) → List ℕ → Option Spoken → Ran
 ranCall room a none = record { text = otherLine; words = a }
-ranCall room a (some call) = answered call (step a room call)
+ranCall room a (some line) = answered (line .letter) (step a room (line .call))
 
 -- What one line gives, followed by what the later ones give.
 abbrev pub followed : Ran → Ran → Ran

@@ -1,16 +1,15 @@
 // A script run on an index: each line's call is made, and its answer written to the output.
 use desk_text::line::Line;
-use desk_text::line::letter_of;
 use desk_text::line::read_line;
 use desk_text::output::LINE_ROOM;
 use desk_text::output::write_answer;
 use desk_text::output::write_other;
 use desk_text::output::write_too_long;
-use desk_text::script::next_line;
+use text::script::next_line;
 ghost use Prim.Native.Nat.{_+_, _*_, _≤_};
 ghost use lib.ListN.{length, drop};
 ghost use Rattle.stores.specs.Written.{Written};
-ghost use Rattle.desk_text.specs.Parts.{linesOf};
+ghost use Rattle.text.specs.Parts.{linesOf};
 ghost use Rattle.desk_text.specs.Output.{lineRoom};
 ghost use Rattle.desk_run.specs.Run.{ranLines};
 ghost use Rattle.desk_run.specs.Progress.{LineRan, LinesRan, Onward, OutputWritten};
@@ -37,11 +36,11 @@ fn run_line(line: &[u8], words: &mut [u64], list: &mut [u64], out: &mut [u8], at
     requires { ⌜ at + lineRoom ≤ length (now out) ⌝ }
     ensures { λ r. ⌜ LineRan (now (line .entry)) (length (now (list .entry))) (now (words .entry)) at (now (out .entry)) r (now (words .exit)) (now (out .exit)) ⌝ }
 {
-    let Line::Called(call) = read_line(line) else {
+    let Line::Called { letter, call } = read_line(line) else {
         return write_other(out, at);
     };
     let answer = index::perform(words, list, call);
-    write_answer(letter_of(call), answer, out, at)
+    write_answer(letter, answer, out, at)
 }
 
 // Runs the next line of the script from position `from` on, past empty lines, if one is left.

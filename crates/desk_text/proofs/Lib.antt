@@ -1,6 +1,4 @@
--- The laws of the text of the desk program.
-pub mod Digits
+-- The laws of the desk program's text.
 pub mod Fields
-pub mod Lines
 pub mod Texts
 pub mod Samples

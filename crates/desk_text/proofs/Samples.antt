@@ -1,93 +1,60 @@
--- Numbers, lines and answers as text: a table that antt computes from the definitions.
+-- Calls and answers as text: a table that antt computes from the definitions.
 -- Assumes nothing.
 use Prim.Native.Nat.{ℕ}
 use mathlib.Core.Path.{_≡_, refl}
 use mathlib.Core.Bool.{Bool, true, false, _&&_}
 use mathlib.Core.List.{List, [], _∷_}
 use mathlib.Core.Option.{Option, none, some}
-use lib.Dec.{eqb}
 use Rattle.rules.specs.declared.Call.{Call}
 use Rattle.rules.specs.declared.Call.the-variants.{Format, Get, Put, Remove, Mend, List as ListCall}
+use Rattle.stores.specs.Lists.{numbersSame}
 use Rattle.replies.specs.Replies.{Said, done, absent, refused}
-use Rattle.desk_text.specs.Parts.{startedBy, parts, nonempty, linesOf, fieldsOf}
-use Rattle.desk_text.specs.Number.{isDigit, allDigits, valueFrom, number, spelled, decimal}
-use Rattle.desk_text.specs.Line.{both, numbersOf, allowed, callWith, calledWith, callOfFields, callOf}
+use Rattle.text.specs.Parts.{startedBy, parts, nonempty, linesOf, fieldsOf}
+use Rattle.text.specs.Number.{isDigit, allDigits, valueFrom, number, spelled, decimal}
+use Rattle.desk_text.specs.Line.{Spoken, spoken, both, numbersOf, allowed, callWith, calledWith, callOfFields, callOf}
 use Rattle.desk_text.specs.Output.{valuesText, answerLine}
 
 pub data Row : Type 0 where
   -- the number that a field spells
-  spells : List ℕ → Option ℕ → Row
   -- the call that a line is
-  calls : List ℕ → Option Call → Row
-  -- the lines of a script
-  lines : List ℕ → List (List ℕ) → Row
+  calls : List ℕ → Option Spoken → Row
   -- the line of an answer
   answers : (letter : ℕ) → Said → (stores : ℕ) → List ℕ → Row
 
-bytesAgree : List ℕ → List ℕ → Bool
-bytesAgree [] [] = true
-bytesAgree [] (y ∷ ys) = false
-bytesAgree (x ∷ xs) [] = false
-bytesAgree (x ∷ xs) (y ∷ ys) = eqb x y && bytesAgree xs ys
-
-linesAgree : List (List ℕ) → List (List ℕ) → Bool
-linesAgree [] [] = true
-linesAgree [] (y ∷ ys) = false
-linesAgree (x ∷ xs) [] = false
-linesAgree (x ∷ xs) (y ∷ ys) = bytesAgree x y && linesAgree xs ys
-
 -- A call as numbers, its kind first.
-callNumbers : Option Call → List ℕ
-callNumbers none = []
-callNumbers (some (Format D S allowance)) = 1 ∷ D ∷ S ∷ allowance ∷ []
-callNumbers (some (Get key)) = 2 ∷ key ∷ []
-callNumbers (some (Put key value allowance)) = 3 ∷ key ∷ value ∷ allowance ∷ []
-callNumbers (some (Remove key allowance)) = 4 ∷ key ∷ allowance ∷ []
-callNumbers (some (Mend allowance)) = 5 ∷ allowance ∷ []
-callNumbers (some ListCall) = 6 ∷ []
+callNumbers : Call → List ℕ
+callNumbers (Format D S allowance) = 1 ∷ D ∷ S ∷ allowance ∷ []
+callNumbers (Get key) = 2 ∷ key ∷ []
+callNumbers (Put key value allowance) = 3 ∷ key ∷ value ∷ allowance ∷ []
+callNumbers (Remove key allowance) = 4 ∷ key ∷ allowance ∷ []
+callNumbers (Mend allowance) = 5 ∷ allowance ∷ []
+callNumbers ListCall = 6 ∷ []
 
-numbers : Option ℕ → List ℕ
-numbers none = []
-numbers (some n) = n ∷ []
+-- A line as numbers, its letter first.
+lineNumbers : Option Spoken → List ℕ
+lineNumbers none = []
+lineNumbers (some l) = l .letter ∷ callNumbers (l .call)
 
 passes : Row → Bool
-passes (spells field n) = bytesAgree (numbers (number field)) (numbers n)
-passes (calls line call) = bytesAgree (callNumbers (callOf line)) (callNumbers call)
-passes (lines script ls) = linesAgree (linesOf script) ls
-passes (answers letter said stores line) = bytesAgree (answerLine letter said stores) line
+passes (calls line call) = numbersSame (lineNumbers (callOf line)) (lineNumbers call)
+passes (answers letter said stores line) = numbersSame (answerLine letter said stores) line
 
 -- Every row of the table passes.
 unfoldable pub allPass : List Row → Bool
-unfolding bytesAgree linesAgree callNumbers numbers passes
+unfolding numbersSame callNumbers lineNumbers passes
 allPass [] = true
 allPass (r ∷ rs) = passes r && allPass rs
 
 pub samples : List Row
 samples =
-    -- numbers: leading zeros, the largest, and what is none
-    spells (48 ∷ []) (some 0)
-    ∷ spells (48 ∷ 48 ∷ 48 ∷ 48 ∷ 48 ∷ 48 ∷ 48 ∷ 48 ∷ 48 ∷ 48 ∷ 48 ∷ 48 ∷ 48 ∷ 48 ∷ 48 ∷ 48 ∷ 48 ∷ 48 ∷ 48 ∷ 55 ∷ []) (some 7)
-    ∷ spells (49 ∷ 56 ∷ 52 ∷ 52 ∷ 54 ∷ 55 ∷ 52 ∷ 52 ∷ 48 ∷ 55 ∷ 51 ∷ 55 ∷ 48 ∷ 57 ∷ 53 ∷ 53 ∷ 49 ∷ 54 ∷ 49 ∷ 53 ∷ []) (some 18446744073709551615)
-    ∷ spells (49 ∷ 56 ∷ 52 ∷ 52 ∷ 54 ∷ 55 ∷ 52 ∷ 52 ∷ 48 ∷ 55 ∷ 51 ∷ 55 ∷ 48 ∷ 57 ∷ 53 ∷ 53 ∷ 49 ∷ 54 ∷ 49 ∷ 54 ∷ []) none
-    ∷ spells (57 ∷ 57 ∷ 57 ∷ 57 ∷ 57 ∷ 57 ∷ 57 ∷ 57 ∷ 57 ∷ 57 ∷ 57 ∷ 57 ∷ 57 ∷ 57 ∷ 57 ∷ 57 ∷ 57 ∷ 57 ∷ 57 ∷ 57 ∷ []) none
-    -- 21 digits
-    ∷ spells (48 ∷ 48 ∷ 48 ∷ 48 ∷ 48 ∷ 48 ∷ 48 ∷ 48 ∷ 48 ∷ 48 ∷ 48 ∷ 48 ∷ 48 ∷ 48 ∷ 48 ∷ 48 ∷ 48 ∷ 48 ∷ 48 ∷ 48 ∷ 55 ∷ []) none
-    ∷ spells [] none
-    ∷ spells (43 ∷ 49 ∷ []) none
-    ∷ spells (32 ∷ 49 ∷ []) none
-    ∷ spells (49 ∷ 32 ∷ []) none
-    ∷ spells (45 ∷ 49 ∷ []) none
-    ∷ spells (49 ∷ 97 ∷ []) none
-    ∷ spells (47 ∷ []) none
-    ∷ spells (58 ∷ []) none
     -- the lines of the six calls
-    ∷ calls (70 ∷ 9 ∷ 50 ∷ 9 ∷ 50 ∷ 9 ∷ 49 ∷ 48 ∷ 48 ∷ []) (some (Format 2 2 100))
-    ∷ calls (80 ∷ 9 ∷ 55 ∷ 9 ∷ 55 ∷ 48 ∷ 9 ∷ 49 ∷ 48 ∷ 48 ∷ []) (some (Put 7 70 100))
-    ∷ calls (71 ∷ 9 ∷ 55 ∷ []) (some (Get 7))
-    ∷ calls (82 ∷ 9 ∷ 55 ∷ 9 ∷ 49 ∷ 48 ∷ 48 ∷ []) (some (Remove 7 100))
-    ∷ calls (77 ∷ 9 ∷ 53 ∷ []) (some (Mend 5))
-    ∷ calls (76 ∷ []) (some ListCall)
-    ∷ calls (80 ∷ 9 ∷ 48 ∷ 48 ∷ 9 ∷ 49 ∷ 56 ∷ 52 ∷ 52 ∷ 54 ∷ 55 ∷ 52 ∷ 52 ∷ 48 ∷ 55 ∷ 51 ∷ 55 ∷ 48 ∷ 57 ∷ 53 ∷ 53 ∷ 49 ∷ 54 ∷ 49 ∷ 53 ∷ 9 ∷ 48 ∷ 48 ∷ 48 ∷ []) (some (Put 0 18446744073709551615 0))
+    calls (70 ∷ 9 ∷ 50 ∷ 9 ∷ 50 ∷ 9 ∷ 49 ∷ 48 ∷ 48 ∷ []) (some (spoken 70 (Format 2 2 100)))
+    ∷ calls (80 ∷ 9 ∷ 55 ∷ 9 ∷ 55 ∷ 48 ∷ 9 ∷ 49 ∷ 48 ∷ 48 ∷ []) (some (spoken 80 (Put 7 70 100)))
+    ∷ calls (71 ∷ 9 ∷ 55 ∷ []) (some (spoken 71 (Get 7)))
+    ∷ calls (82 ∷ 9 ∷ 55 ∷ 9 ∷ 49 ∷ 48 ∷ 48 ∷ []) (some (spoken 82 (Remove 7 100)))
+    ∷ calls (77 ∷ 9 ∷ 53 ∷ []) (some (spoken 77 (Mend 5)))
+    ∷ calls (76 ∷ []) (some (spoken 76 ListCall))
+    ∷ calls (80 ∷ 9 ∷ 48 ∷ 48 ∷ 9 ∷ 49 ∷ 56 ∷ 52 ∷ 52 ∷ 54 ∷ 55 ∷ 52 ∷ 52 ∷ 48 ∷ 55 ∷ 51 ∷ 55 ∷ 48 ∷ 57 ∷ 53 ∷ 53 ∷ 49 ∷ 54 ∷ 49 ∷ 53 ∷ 9 ∷ 48 ∷ 48 ∷ 48 ∷ []) (some (spoken 80 (Put 0 18446744073709551615 0)))
     -- a tab too many at the end, in the middle or in front; a letter in lower case; numbers too few or too many
     ∷ calls [] none
     ∷ calls (76 ∷ 9 ∷ []) none
@@ -110,23 +77,17 @@ samples =
     ∷ calls (70 ∷ 9 ∷ 50 ∷ 9 ∷ 50 ∷ []) none
     ∷ calls (80 ∷ 9 ∷ 55 ∷ 9 ∷ 55 ∷ 48 ∷ 9 ∷ 49 ∷ 48 ∷ 48 ∷ 9 ∷ 53 ∷ []) none
     -- an allowance is below 2^32, a key is not
-    ∷ calls (77 ∷ 9 ∷ 52 ∷ 50 ∷ 57 ∷ 52 ∷ 57 ∷ 54 ∷ 55 ∷ 50 ∷ 57 ∷ 53 ∷ []) (some (Mend 4294967295))
+    ∷ calls (77 ∷ 9 ∷ 52 ∷ 50 ∷ 57 ∷ 52 ∷ 57 ∷ 54 ∷ 55 ∷ 50 ∷ 57 ∷ 53 ∷ []) (some (spoken 77 (Mend 4294967295)))
     ∷ calls (77 ∷ 9 ∷ 52 ∷ 50 ∷ 57 ∷ 52 ∷ 57 ∷ 54 ∷ 55 ∷ 50 ∷ 57 ∷ 54 ∷ []) none
-    ∷ calls (82 ∷ 9 ∷ 55 ∷ 9 ∷ 52 ∷ 50 ∷ 57 ∷ 52 ∷ 57 ∷ 54 ∷ 55 ∷ 50 ∷ 57 ∷ 53 ∷ []) (some (Remove 7 4294967295))
+    ∷ calls (82 ∷ 9 ∷ 55 ∷ 9 ∷ 52 ∷ 50 ∷ 57 ∷ 52 ∷ 57 ∷ 54 ∷ 55 ∷ 50 ∷ 57 ∷ 53 ∷ []) (some (spoken 82 (Remove 7 4294967295)))
     ∷ calls (82 ∷ 9 ∷ 55 ∷ 9 ∷ 52 ∷ 50 ∷ 57 ∷ 52 ∷ 57 ∷ 54 ∷ 55 ∷ 50 ∷ 57 ∷ 54 ∷ []) none
     ∷ calls (70 ∷ 9 ∷ 49 ∷ 9 ∷ 49 ∷ 9 ∷ 52 ∷ 50 ∷ 57 ∷ 52 ∷ 57 ∷ 54 ∷ 55 ∷ 50 ∷ 57 ∷ 54 ∷ []) none
-    ∷ calls (80 ∷ 9 ∷ 49 ∷ 9 ∷ 49 ∷ 9 ∷ 52 ∷ 50 ∷ 57 ∷ 52 ∷ 57 ∷ 54 ∷ 55 ∷ 50 ∷ 57 ∷ 53 ∷ []) (some (Put 1 1 4294967295))
+    ∷ calls (80 ∷ 9 ∷ 49 ∷ 9 ∷ 49 ∷ 9 ∷ 52 ∷ 50 ∷ 57 ∷ 52 ∷ 57 ∷ 54 ∷ 55 ∷ 50 ∷ 57 ∷ 53 ∷ []) (some (spoken 80 (Put 1 1 4294967295)))
     ∷ calls (80 ∷ 9 ∷ 49 ∷ 9 ∷ 49 ∷ 9 ∷ 52 ∷ 50 ∷ 57 ∷ 52 ∷ 57 ∷ 54 ∷ 55 ∷ 50 ∷ 57 ∷ 54 ∷ []) none
-    ∷ calls (71 ∷ 9 ∷ 52 ∷ 50 ∷ 57 ∷ 52 ∷ 57 ∷ 54 ∷ 55 ∷ 50 ∷ 57 ∷ 54 ∷ []) (some (Get 4294967296))
+    ∷ calls (71 ∷ 9 ∷ 52 ∷ 50 ∷ 57 ∷ 52 ∷ 57 ∷ 54 ∷ 55 ∷ 50 ∷ 57 ∷ 54 ∷ []) (some (spoken 71 (Get 4294967296)))
     -- a carriage return is no digit
     ∷ calls (71 ∷ 9 ∷ 55 ∷ 13 ∷ []) none
     ∷ calls (76 ∷ 13 ∷ []) none
-    -- lines: empty ones are skipped, the last may lack its line feed
-    ∷ lines [] []
-    ∷ lines (10 ∷ 10 ∷ []) []
-    ∷ lines (76 ∷ 10 ∷ []) ((76 ∷ []) ∷ [])
-    ∷ lines (10 ∷ 76 ∷ 10 ∷ 10 ∷ 71 ∷ 9 ∷ 55 ∷ []) ((76 ∷ []) ∷ (71 ∷ 9 ∷ 55 ∷ []) ∷ [])
-    ∷ lines (76 ∷ 13 ∷ 10 ∷ 32 ∷ 10 ∷ []) ((76 ∷ 13 ∷ []) ∷ (32 ∷ []) ∷ [])
     -- the answers of document 01's example, a refusal of two digits, and a mend
     ∷ answers 70 (done []) 67 (70 ∷ 9 ∷ 48 ∷ 9 ∷ 54 ∷ 55 ∷ 10 ∷ [])
     ∷ answers 80 (done []) 2 (80 ∷ 9 ∷ 48 ∷ 9 ∷ 50 ∷ 10 ∷ [])

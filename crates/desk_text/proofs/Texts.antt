@@ -13,10 +13,10 @@ use Rattle.replies.specs.declared.Refusal.the-variants.{NoStore, NoKey, Broken,
 use Rattle.replies.specs.declared.Reply.{Reply}
 use Rattle.replies.specs.declared.Reply.the-variants.{Done, Value, Absent, Refused}
 use Rattle.replies.specs.Replies.{numberOf, saidBy}
-use Rattle.desk_text.specs.Parts.{tab, lineFeed}
-use Rattle.desk_text.specs.Number.{decimal, spelled}
+use Rattle.text.specs.Parts.{tab, lineFeed}
+use Rattle.text.specs.Number.{decimal, spelled}
 use Rattle.desk_text.specs.Output.{replyText, valuesText, endText, answerLine, lineRoom}
-use Rattle.desk_text.proofs.Digits.{length-decimal}
+use Rattle.text.proofs.Digits.{length-decimal}
 
 -- The number of a refusal has at most two digits.
 pub length-refusal : (r : Refusal) → length (decimal (numberOf r)) ≤ 2

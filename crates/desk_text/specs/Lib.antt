@@ -1,6 +1,3 @@
--- Document 01, 'The desk program': the text of a desk script and of its answers.
-pub mod Parts
-pub mod Number
+-- Document 01, 'The desk program': the lines that are calls, and the lines of output.
 pub mod Line
-pub mod Script
 pub mod Output

@@ -3,8 +3,8 @@
 use Prim.Native.Nat.{ℕ}
 use mathlib.Core.List.{List, [], _∷_, _++_}
 use Rattle.replies.specs.Replies.{Said, done, absent, refused}
-use Rattle.desk_text.specs.Parts.{tab, lineFeed}
-use Rattle.desk_text.specs.Number.{decimal}
+use Rattle.text.specs.Parts.{tab, lineFeed}
+use Rattle.text.specs.Number.{decimal}
 
 -- The second field: 0 for done, `-` for absent, or the number of the refusal.
 abbrev pub replyText : Said → List ℕ

@@ -1,45 +1,20 @@
 // A line of a script: the call that it is, if it is one.
-use crate::TAB;
-use crate::number::Number;
-use crate::number::read_number;
 use bytes::scan::find;
 use rules::Call;
+use text::TAB;
+use text::number::Number;
+use text::number::read_number;
 ghost use mathlib.Core.Path.{_≡_};
 ghost use mathlib.Core.List.{[], _∷_};
-ghost use Rattle.desk_text.specs.Line.{letterOf, callOf, callWith, lineSaid};
+ghost use Rattle.desk_text.specs.Line.{callOf, callWith, lineSaid};
 
 // The first number that is no allowance.
 const ALLOWANCE_LIMIT: u64 = 4294967296;
 
-// What a line is: a call, or some other line.
+// What a line is: a call, with the letter that its answer begins with; or some other line.
 pub enum Line {
-    Called(Call),
+    Called { letter: u8, call: Call },
     Other,
-}
-
-// The letter of a call.
-pub fn letter_of(call: Call) -> u8
-    ensures { λ r. ⌜ r ≡ letterOf call ⌝ }
-{
-    match call {
-        Call::Format {
-            depth: _,
-            segments: _,
-            allowance: _,
-        } => b'F',
-        Call::Put {
-            key: _,
-            value: _,
-            allowance: _,
-        } => b'P',
-        Call::Get { key: _ } => b'G',
-        Call::Remove {
-            key: _,
-            allowance: _,
-        } => b'R',
-        Call::Mend { allowance: _ } => b'M',
-        Call::List => b'L',
-    }
 }
 
 // The call of a letter alone.
@@ -47,7 +22,10 @@ fn call_of_none(letter: u8) -> Line
     ensures { λ r. ⌜ lineSaid r ≡ callWith letter [] ⌝ }
 {
     if letter == b'L' {
-        return Line::Called(Call::List);
+        return Line::Called {
+            letter,
+            call: Call::List,
+        };
     }
     Line::Other
 }
@@ -57,7 +35,10 @@ fn call_of_one(letter: u8, x: u64) -> Line
     ensures { λ r. ⌜ lineSaid r ≡ callWith letter (x ∷ []) ⌝ }
 {
     if letter == b'G' {
-        return Line::Called(Call::Get { key: x });
+        return Line::Called {
+            letter,
+            call: Call::Get { key: x },
+        };
     }
     if letter != b'M' {
         return Line::Other;
@@ -66,7 +47,10 @@ fn call_of_one(letter: u8, x: u64) -> Line
         return Line::Other;
     }
     let allowance = x as u32;
-    Line::Called(Call::Mend { allowance })
+    Line::Called {
+        letter,
+        call: Call::Mend { allowance },
+    }
 }
 
 // The call of a letter and two numbers.
@@ -80,7 +64,10 @@ fn call_of_two(letter: u8, x: u64, y: u64) -> Line
         return Line::Other;
     }
     let allowance = y as u32;
-    Line::Called(Call::Remove { key: x, allowance })
+    Line::Called {
+        letter,
+        call: Call::Remove { key: x, allowance },
+    }
 }
 
 // The call of a letter and three numbers.
@@ -92,18 +79,24 @@ fn call_of_three(letter: u8, x: u64, y: u64, z: u64) -> Line
     }
     let allowance = z as u32;
     if letter == b'F' {
-        return Line::Called(Call::Format {
-            depth: x,
-            segments: y,
-            allowance,
-        });
+        return Line::Called {
+            letter,
+            call: Call::Format {
+                depth: x,
+                segments: y,
+                allowance,
+            },
+        };
     }
     if letter == b'P' {
-        return Line::Called(Call::Put {
-            key: x,
-            value: y,
-            allowance,
-        });
+        return Line::Called {
+            letter,
+            call: Call::Put {
+                key: x,
+                value: y,
+                allowance,
+            },
+        };
     }
     Line::Other
 }

@@ -1,39 +1,22 @@
 // The lines of output.
-use crate::LINE_FEED;
-use crate::TAB;
-use crate::number::write_decimal;
 use replies::Answer;
 use replies::Reply;
 use replies::refusal_number;
+use text::LINE_FEED;
+use text::TAB;
+use text::output::write_byte;
+use text::output::write_decimal;
+use text::output::write_field;
 ghost use Prim.Native.Nat.{_+_, _≤_, _<_};
 ghost use mathlib.Core.List.{[], _∷_};
 ghost use lib.ListN.{length};
 ghost use Rattle.stores.specs.Written.{Written};
 ghost use Rattle.replies.specs.Replies.{saidBy};
-ghost use Rattle.desk_text.specs.Parts.{tab, lineFeed};
-ghost use Rattle.desk_text.specs.Number.{decimal};
+ghost use Rattle.text.specs.Parts.{lineFeed};
 ghost use Rattle.desk_text.specs.Output.{replyText, headText, endText, answerLine, otherLine, tooLongLine, lineRoom};
 
 // The bytes of room for the longest line.
 pub const LINE_ROOM: usize = 48;
-
-// Writes one byte at position `at`, and answers the position behind it.
-pub(crate) fn write_byte(byte: u8, out: &mut [u8], at: usize) -> usize
-    requires { ⌜ at < length (now out) ⌝ }
-    ensures { λ r. ⌜ Written (byte ∷ []) at (now (out .entry)) r (now (out .exit)) ⌝ }
-{
-    out[at] = byte;
-    at + 1
-}
-
-// Writes a tab and n in decimal digits.
-fn write_field(n: u64, out: &mut [u8], at: usize) -> usize
-    requires { ⌜ at + 21 ≤ length (now out) ⌝ }
-    ensures { λ r. ⌜ Written (tab ∷ decimal n) at (now (out .entry)) r (now (out .exit)) ⌝ }
-{
-    let next = write_byte(TAB, out, at);
-    write_decimal(n, out, next)
-}
 
 // Writes a reply: 0 for done, `-` for absent, or the number of the refusal, which has two digits
 // at most.

@@ -9,7 +9,8 @@ use lib.Dec.{eqb}
 use Rattle.stores.specs.Store.{store, apply, exec}
 use Rattle.stores.specs.Plan.{Plan, Outcome, cut}
 use Rattle.replies.specs.declared.Refusal.the-variants.{NoStore, NoKey, Broken, Unmended, TooDeep, NoSegment, CutOff, BadShape, TooShort, ShortList}
-use Rattle.replies.specs.Replies.{numberOf, Said, done, absent, refused, isDone, isRefusal, numbersSame, saidSame, unless, tested, changed}
+use Rattle.stores.specs.Lists.{numbersSame}
+use Rattle.replies.specs.Replies.{numberOf, Said, done, absent, refused, isDone, isRefusal, saidSame, unless, tested, changed}
 
 pub numbers : List ℕ
 numbers =

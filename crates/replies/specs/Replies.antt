@@ -1,10 +1,11 @@
 -- Document 01, 'Replies that say no': what the code's answers mean in its numbers, tests in its order, and calls cut off.
 -- Assumes nothing.
 use Prim.Native.Nat.{ℕ}
-use mathlib.Core.Bool.{Bool, true, false, _&&_}
+use mathlib.Core.Bool.{Bool, true, false}
 use mathlib.Core.List.{List, [], _∷_}
 use mathlib.Core.Option.{Option, none, some}
 use lib.Dec.{eqb}
+use Rattle.stores.specs.Lists.{numbersSame}
 use Rattle.stores.specs.Plan.{Plan, Outcome, reply-only, cut}
 use Rattle.replies.specs.declared.Refusal.{Refusal}
 use Rattle.replies.specs.declared.Refusal.the-variants.{NoStore, NoKey, Broken, Unmended, TooDeep, NoSegment, CutOff, BadShape, TooShort, ShortList}
@@ -48,13 +49,6 @@ abbrev pub isRefusal : (number : ℕ) → Said → Bool
 isRefusal number (done values) = false
 isRefusal number absent = false
 isRefusal number (refused n) = eqb n number
-
--- Two lists of numbers are the same.
-unfoldable pub numbersSame : List ℕ → List ℕ → Bool
-numbersSame [] [] = true
-numbersSame [] (y ∷ ys) = false
-numbersSame (x ∷ xs) [] = false
-numbersSame (x ∷ xs) (y ∷ ys) = eqb x y && numbersSame xs ys
 
 -- Two replies are the same.
 unfoldable pub saidSame : Said → Said → Bool

@@ -5,7 +5,7 @@ use mathlib.Core.Bool.{Bool, true, false, _&&_}
 use mathlib.Core.List.{List, [], _∷_}
 use lib.Dec.{eqb}
 use lib.ListN.{replicate}
-use Rattle.stores.specs.Lists.{each, firstIn, allBelow, anyBelow}
+use Rattle.stores.specs.Lists.{each, firstIn, allBelow, anyBelow, numbersSame}
 use Rattle.stores.specs.Store.{Store, word, apply, exec}
 use Rattle.stores.specs.Plan.{Outcome, cut}
 use Rattle.rules.specs.declared.Call.{Call}
@@ -13,7 +13,7 @@ use Rattle.rules.specs.Layout.{depthIn, maxDepthIn, segmentsIn, markIn, 
 use Rattle.rules.specs.Keys.{bucket, bit, index, width, blockBits, blockStart, live, windowBucket, slotsOf, window}
 use Rattle.rules.specs.Scan.{inRange, validLeader, nextLeader, leader, leadersValid, entriesAgree}
 use Rattle.rules.specs.Slots.{hit, usable, firstUsable, chosen, choose, named, freeSegment}
-use Rattle.replies.specs.Replies.{Said, numbersSame, saidSame, unless, tested, replied, changed}
+use Rattle.replies.specs.Replies.{Said, saidSame, unless, tested, replied, changed}
 use Rattle.rules.specs.Format.{formatTests, formatStores, format}
 use Rattle.rules.specs.Get.{keyEntry, keySegment, keyTests, getTests, valueAtHit, get}
 use Rattle.rules.specs.Split.{doubling, moves, copySlot, copying, halfEntry, updating, halvingOf, halving, doublingFor, splitting}

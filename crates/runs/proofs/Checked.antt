@@ -7,7 +7,8 @@ use mathlib.Core.List.{List, [], _∷_}
 use mathlib.Core.Logic.{⊎-elim}
 use borrow.Author.Tests.{eq-eqb}
 use Rattle.stores.proofs.Tests.{cases, and-true, or-right}
-use Rattle.replies.specs.Replies.{Said, done, absent, refused, numbersSame, saidSame}
+use Rattle.stores.specs.Lists.{numbersSame}
+use Rattle.replies.specs.Replies.{Said, done, absent, refused, saidSame}
 use Rattle.runs.specs.Map.{Map, View, formats, gets, puts, removes, mends, keeps, mapSays}
 use Rattle.runs.specs.Run.{Machine, Point, claimedAtEnd, claimed, next, finish, EachCall, GetAgrees, CallAgrees, AgreesWithMap}
 use Rattle.runs.specs.Check.{getAgrees, callsAgree, getsAgree, agrees}

@@ -6,9 +6,9 @@ use mathlib.Core.Path.{_≡_, refl}
 use mathlib.Core.Bool.{Bool, true, false, not, _&&_, _||_}
 use mathlib.Core.List.{List, [], _∷_}
 use lib.Dec.{eqb}
-use Rattle.stores.specs.Lists.{pick}
+use Rattle.stores.specs.Lists.{pick, numbersSame}
 use Rattle.stores.specs.Store.{word}
-use Rattle.replies.specs.Replies.{Said, done, absent, refused, numbersSame, saidSame}
+use Rattle.replies.specs.Replies.{Said, done, absent, refused, saidSame}
 use Rattle.runs.specs.Map.{View, formats, gets, puts, removes, mends, keeps, empty, updated, fed}
 use Rattle.runs.specs.Run.{Machine, start, mayFollow, isRecovery, recoveryAfter, claimedAtEnd, claimed, next, finish, validRun}
 use Rattle.runs.specs.Check.{getAgrees, callsAgree, getsAgree, agrees}

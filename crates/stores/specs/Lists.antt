@@ -3,6 +3,7 @@
 use Prim.Native.Nat.{ℕ, zero, suc}
 use mathlib.Core.Bool.{Bool, true, false, _&&_, _||_}
 use mathlib.Core.List.{List, [], _∷_, _++_}
+use lib.Dec.{eqb}
 use mathlib.Core.Option.{Option, none, some}
 
 -- One of two values by a test: the first where the test is true.
@@ -31,3 +32,10 @@ allBelow test (suc n) = allBelow test n && test n
 unfoldable pub anyBelow : (ℕ → Bool) → ℕ → Bool
 anyBelow test zero = false
 anyBelow test (suc n) = anyBelow test n || test n
+
+-- Two lists of numbers are the same.
+unfoldable pub numbersSame : List ℕ → List ℕ → Bool
+numbersSame [] [] = true
+numbersSame [] (y ∷ ys) = false
+numbersSame (x ∷ xs) [] = false
+numbersSame (x ∷ xs) (y ∷ ys) = eqb x y && numbersSame xs ys

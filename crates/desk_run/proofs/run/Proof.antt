@@ -2,7 +2,7 @@
 -- Assumes nothing.
 use native.Mathlib.Omega.{arith}
 use borrow.Author.Needs.{needs}
-use Rattle.desk_text.proofs.Lines.{lines-few}
+use Rattle.text.proofs.Lines.{lines-few}
 use Rattle.desk_run.proofs.Runs.{output-too-long, output-lines}
 use Rattle.desk_run.proofs.run.Statement.{statement}
 use Rattle.desk_run.proofs.run.Tie as tie

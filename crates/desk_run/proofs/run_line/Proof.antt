@@ -1,17 +1,17 @@
 -- `desk_run::run_line` meets its contract.
 -- Assumes nothing.
 use mathlib.Core.Path.{refl, sym, ap, _∙_}
-use borrow.Author.Needs.{needs}
 use Rattle.desk_text.specs.Line.{lineSaid}
 use Rattle.desk_run.proofs.Runs.{line-other, line-called}
+use borrow.Author.Needs.{needs}
 use Rattle.desk_run.proofs.run_line.Statement.{statement}
 use Rattle.desk_run.proofs.run_line.Tie as tie
 
 read-line-requires : tie.Need-read-line-requires
 read-line-requires c κs = search needs
 
-enum-known-call : tie.Need-enum-known-call
-enum-known-call c = search needs
+enum-known-letter : tie.Need-enum-known-letter
+enum-known-letter c = search needs
 
 enum-told : tie.Need-enum-told
 enum-told c = search needs
@@ -29,9 +29,6 @@ returns c =
 perform-requires : tie.Need-perform-requires
 perform-requires c κs = search needs
 
-letter-of-requires : tie.Need-letter-of-requires
-letter-of-requires c κs = search needs
-
 write-answer-requires : tie.Need-write-answer-requires
 write-answer-requires c κs = search needs
 
@@ -46,21 +43,20 @@ same-length-4 c = search needs
 
 returns-2 : tie.Need-returns-2
 returns-2 c =
-    line-called _ _ _ _ _ _ _ _ _ _ _ _ _ (sym (c .before .before .before .before .before .before .before .before .before .before .before .before .before .before .before .read-line .ensures) ∙ ap lineSaid (c .before .before .before .before .before .before .before .before .before .before .before .before .before .call .given .1)) refl (c .before .before .before .before .letter-of .ensures) (c .before .before .before .before .before .before .before .before .before .perform .ensures)
-    (c .before .before .write-answer .ensures)
+    line-called _ _ _ _ _ _ _ _ _ _ _ _ _ (sym (c .before .before .before .before .before .before .before .before .before .before .before .before .before .before .read-line .ensures) ∙ ap lineSaid (c .before .before .before .before .before .before .before .before .before .before .before .before .letter .given .1)) refl
+    (c .before .before .before .before .before .before .before .before .perform .ensures) (c .before .before .write-answer .ensures)
 
 pub run-line-spec : {M : Type 1} → statement M
 run-line-spec =
     tie.close
     (tie.spec
     read-line-requires
-    enum-known-call
+    enum-known-letter
     enum-told
     write-other-requires
     same-length
     returns
     perform-requires
-    letter-of-requires
     write-answer-requires
     same-length-2
     same-length-3

@@ -5,7 +5,7 @@ use Prim.Native.Nat.{_+_}
 use mathlib.Core.List.{[], _∷_}
 use native.Mathlib.Omega.{arith}
 use borrow.Author.Needs.{needs}
-use Rattle.desk_text.specs.Number.{numberSaid}
+use Rattle.text.specs.Number.{numberSaid}
 use Rattle.desk_text.proofs.Fields.{read-nothing, read-letter, read-untabbed, read-tabbed, read-refused, read-more, read-last, read-too-many}
 use Rattle.desk_text.proofs.line.read_line.Statement.{statement}
 use Rattle.desk_text.proofs.line.read_line.Tie as tie

@@ -7,10 +7,10 @@ use borrow.Author.Needs.{needs}
 use mathlib.Core.List.{append-assoc}
 use Rattle.stores.proofs.Written.{written-append}
 use Rattle.replies.specs.Replies.{saidBy}
-use Rattle.desk_text.specs.Parts.{tab, lineFeed}
-use Rattle.desk_text.specs.Number.{decimal}
+use Rattle.text.specs.Parts.{tab, lineFeed}
+use Rattle.text.specs.Number.{decimal}
 use Rattle.desk_text.specs.Output.{headText, saidText, endText, answerLine}
-use Rattle.desk_text.proofs.Digits.{length-decimal}
+use Rattle.text.proofs.Digits.{length-decimal}
 use Rattle.desk_text.proofs.Texts.{length-reply}
 use Rattle.desk_text.proofs.output.write_answer.Statement.{statement}
 use Rattle.desk_text.proofs.output.write_answer.Tie as tie

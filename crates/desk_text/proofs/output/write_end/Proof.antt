@@ -4,8 +4,8 @@ use mathlib.Core.List.{[], _∷_}
 use native.Mathlib.Omega.{arith}
 use borrow.Author.Needs.{needs}
 use Rattle.stores.proofs.Written.{written-append}
-use Rattle.desk_text.specs.Number.{decimal}
-use Rattle.desk_text.proofs.Digits.{length-decimal}
+use Rattle.text.specs.Number.{decimal}
+use Rattle.text.proofs.Digits.{length-decimal}
 use Rattle.desk_text.proofs.Texts.{end-value, end-plain}
 use Rattle.desk_text.proofs.output.write_end.Statement.{statement}
 use Rattle.desk_text.proofs.output.write_end.Tie as tie

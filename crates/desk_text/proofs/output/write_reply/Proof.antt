@@ -4,7 +4,7 @@ use Prim.Native.Nat.{_≤_}
 use lib.ListN.{length}
 use native.Mathlib.Omega.{arith}
 use borrow.Author.Needs.{needs}
-use Rattle.desk_text.specs.Number.{decimal}
+use Rattle.text.specs.Number.{decimal}
 use Rattle.desk_text.proofs.Texts.{length-refusal}
 use Rattle.desk_text.proofs.output.write_reply.Statement.{statement}
 use Rattle.desk_text.proofs.output.write_reply.Tie as tie

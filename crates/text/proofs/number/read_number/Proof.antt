@@ -1,4 +1,4 @@
--- `desk_text::number::read_number` meets its contract. The invariant: what is still to be read behind `value` is the field's number.
+-- `text::number::read_number` meets its contract. The invariant: what is still to be read behind `value` is the field's number.
 -- Assumes nothing.
 use mathlib.Core.Path.{_≡_, refl, sym, ap, _∙_}
 use Prim.Native.Nat.{suc, _-_, _≤_}
@@ -8,10 +8,10 @@ use lib.Seq.{drop-cons}
 use native.Mathlib.Omega.{arith}
 use borrow.Author.Needs.{needs}
 use lib.Seq.{drop-length}
-use Rattle.desk_text.specs.Number.{numberSaid}
-use Rattle.desk_text.proofs.Digits.{numberFrom, number-next, number-stops, number-read, number-of-none, number-of-many}
-use Rattle.desk_text.proofs.number.read_number.Statement.{statement}
-use Rattle.desk_text.proofs.number.read_number.Tie as tie
+use Rattle.text.specs.Number.{numberSaid}
+use Rattle.text.proofs.Digits.{numberFrom, number-next, number-stops, number-read, number-of-none, number-of-many}
+use Rattle.text.proofs.number.read_number.Statement.{statement}
+use Rattle.text.proofs.number.read_number.Tie as tie
 
 abbrev Inv-loop : tie.InvT-loop
 Inv-loop field value₀ i₀ i-end value i =

@@ -1,7 +1,7 @@
 // A script: its lines, one after the other.
 use crate::LINE_FEED;
 use bytes::scan::find;
-ghost use Rattle.desk_text.specs.Script.{NextLine};
+ghost use Rattle.text.specs.Script.{NextLine};
 
 // Where a line stands: from `start` to the byte before `end`.
 pub struct Span {

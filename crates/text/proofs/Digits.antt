@@ -13,7 +13,7 @@ use lib.Dec.{leb, ltb}
 use lib.ListN.{length, length-append}
 use Rattle.stores.specs.Lists.{pick}
 use Rattle.stores.proofs.Tests.{cases, and-left, and-right, and-true}
-use Rattle.desk_text.specs.Number.{digitZero, isDigit, allDigits, valueFrom, number, withDigit, spelled, decimal}
+use Rattle.text.specs.Number.{digitZero, isDigit, allDigits, valueFrom, number, withDigit, spelled, decimal}
 
 -- ---- Reading
 

@@ -1,15 +1,11 @@
-// A number as text: read from a field of a script, and written in decimal digits.
-use crate::output::write_byte;
-ghost use Prim.Native.Nat.{_+_, _≤_};
+// A number read from a field of a text.
 ghost use mathlib.Core.Path.{_≡_};
-ghost use lib.ListN.{length};
-ghost use Rattle.stores.specs.Written.{Written};
-ghost use Rattle.desk_text.specs.Number.{number, numberSaid, decimal, withDigit};
+ghost use Rattle.text.specs.Number.{number, numberSaid, withDigit};
 
 // The most digits of a number.
 const MOST_DIGITS: usize = 20;
 
-const ZERO: u8 = b'0';
+pub(crate) const ZERO: u8 = b'0';
 
 const NINE: u8 = b'9';
 
@@ -37,7 +33,7 @@ fn with_digit(value: u64, byte: u8) -> Number
 }
 
 // Reads a field as a number.
-pub(crate) fn read_number(field: &[u8]) -> Number
+pub fn read_number(field: &[u8]) -> Number
     ensures { λ r. ⌜ numberSaid r ≡ number (now (field .entry)) ⌝ }
 {
     if field.len() < 1 {
@@ -54,17 +50,4 @@ pub(crate) fn read_number(field: &[u8]) -> Number
         value = next;
     }
     Number::Is(value)
-}
-
-// Writes n in decimal digits from position `at` on, and answers the position behind them.
-pub(crate) fn write_decimal(n: u64, out: &mut [u8], at: usize) -> usize
-    requires { ⌜ at + length (decimal n) ≤ length (now out) ⌝ }
-    ensures { λ r. ⌜ Written (decimal n) at (now (out .entry)) r (now (out .exit)) ⌝ }
-{
-    let digit = (n % 10) as u8;
-    if n < 10 {
-        return write_byte(ZERO + digit, out, at);
-    }
-    let next = write_decimal(n / 10, out, at);
-    write_byte(ZERO + digit, out, next)
 }

@@ -1,12 +1,12 @@
--- `desk_text::number::with_digit` meets its contract.
+-- `text::number::with_digit` meets its contract.
 -- Assumes nothing.
 use Prim.Native.Nat.{_+_, _-_, _*_, _^_}
 use borrow.Author.Tests.{lt-ltb, le-ltb, le-leb, lt-leb}
 use native.Mathlib.Omega.{arith}
 use borrow.Author.Needs.{needs}
-use Rattle.desk_text.specs.Number.{isDigit, withDigit}
-use Rattle.desk_text.proofs.number.with_digit.Statement.{statement}
-use Rattle.desk_text.proofs.number.with_digit.Tie as tie
+use Rattle.text.specs.Number.{isDigit, withDigit}
+use Rattle.text.proofs.number.with_digit.Statement.{statement}
+use Rattle.text.proofs.number.with_digit.Tie as tie
 
 returns : tie.Need-returns
 unfolding withDigit isDigit

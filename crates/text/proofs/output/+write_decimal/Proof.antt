@@ -1,4 +1,4 @@
--- `desk_text::number::write_decimal` meets its contract. The measure is the number itself.
+-- `text::output::write_decimal` meets its contract. The measure is the number itself.
 -- Assumes nothing.
 use mathlib.Core.Path.{_≡_, ap, _∙_}
 use Prim.Native.Nat.{ℕ, _+_, _/_, _<_}
@@ -9,14 +9,14 @@ use borrow.Author.Needs.{needs}
 use borrow.Fn.Kinds.{In}
 use borrow.Fn.PlainCycle.{Measures, is, falls, and}
 use Rattle.stores.proofs.Written.{written-append}
-use Rattle.desk_text.specs.Number.{decimal}
-use Rattle.desk_text.proofs.Digits.{decimal-digit, decimal-more}
-use Rattle.desk_text.proofs.number.write_decimal.Reads as write-decimal
-use Rattle.desk_text.proofs.number.write_decimal.Kinds as write-decimal-kinds
-use Rattle.desk_text.proofs.number.+write_decimal.Lts-write_decimal as write-decimal-lts
-use Rattle.desk_text.proofs.output.write_byte.Reads as write-byte-reads
-use Rattle.desk_text.proofs.number.+write_decimal.{statement}
-use Rattle.desk_text.proofs.number.+write_decimal.Tie.{close}
+use Rattle.text.specs.Number.{decimal}
+use Rattle.text.proofs.Digits.{decimal-digit, decimal-more}
+use Rattle.text.proofs.output.write_decimal.Reads as write-decimal
+use Rattle.text.proofs.output.write_decimal.Kinds as write-decimal-kinds
+use Rattle.text.proofs.output.+write_decimal.Lts-write_decimal as write-decimal-lts
+use Rattle.text.proofs.output.write_byte.Reads as write-byte-reads
+use Rattle.text.proofs.output.+write_decimal.{statement}
+use Rattle.text.proofs.output.+write_decimal.Tie.{close}
 
 abbrev μ-write-decimal : Measures 1 write-decimal-kinds.ps ℕ
 μ-write-decimal κs a = a .0

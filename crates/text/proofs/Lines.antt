@@ -13,9 +13,9 @@ use lib.ListN.{length, take, drop, getD, drop-of-length-le}
 use lib.Seq.{drop-cons, drop-drop}
 use Rattle.stores.proofs.Tests.{cases}
 use Rattle.bytes.specs.Bytes.{indexOf, indexAfter, slice}
-use Rattle.desk_text.specs.Parts.{lineFeed, startedBy, parts, nonempty, linesOf}
-use Rattle.desk_text.specs.Script.{NextLine}
-use Rattle.desk_text.proofs.Fields.{parts-first, parts-from, found-index}
+use Rattle.text.specs.Parts.{lineFeed, startedBy, parts, nonempty, linesOf}
+use Rattle.text.specs.Script.{NextLine}
+use Rattle.text.proofs.Parts.{parts-first, parts-from, found-index}
 
 pub lines-none : linesOf [] ≡ []
 unfolding linesOf parts nonempty

@@ -6,7 +6,7 @@ use mathlib.Core.List.{List, [], _∷_}
 use lib.Dec.{ltb}
 use lib.ListN.{length, take, drop}
 use Rattle.stores.specs.Lists.{pick}
-use Rattle.desk_text.specs.Parts.{linesOf}
+use Rattle.text.specs.Parts.{linesOf}
 
 -- From position `from` on, the script's next line stands from `start` to `end`; where none is left, both are its length, also
 -- for a position behind its end.

@@ -7,8 +7,8 @@ use mathlib.Core.Option.{Option, none, some}
 use lib.Dec.{leb, ltb}
 use lib.ListN.{length}
 use Rattle.stores.specs.Lists.{pick}
-use Rattle.desk_text.specs.declared.number.Number.{Number}
-use Rattle.desk_text.specs.declared.number.Number.the-variants.{Is, Not}
+use Rattle.text.specs.declared.number.Number.{Number}
+use Rattle.text.specs.declared.number.Number.the-variants.{Is, Not}
 
 -- The byte of the digit 0; the digits follow one another.
 abbrev pub digitZero : ℕ

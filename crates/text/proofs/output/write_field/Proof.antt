@@ -1,13 +1,13 @@
--- `desk_text::output::write_field` meets its contract.
+-- `text::output::write_field` meets its contract.
 -- Assumes nothing.
 use mathlib.Core.List.{[], _∷_}
 use native.Mathlib.Omega.{arith}
 use borrow.Author.Needs.{needs}
 use Rattle.stores.proofs.Written.{written-append}
-use Rattle.desk_text.specs.Number.{decimal}
-use Rattle.desk_text.proofs.Digits.{length-decimal}
-use Rattle.desk_text.proofs.output.write_field.Statement.{statement}
-use Rattle.desk_text.proofs.output.write_field.Tie as tie
+use Rattle.text.specs.Number.{decimal}
+use Rattle.text.proofs.Digits.{length-decimal}
+use Rattle.text.proofs.output.write_field.Statement.{statement}
+use Rattle.text.proofs.output.write_field.Tie as tie
 
 write-byte-requires : tie.Need-write-byte-requires
 write-byte-requires c κs = search needs

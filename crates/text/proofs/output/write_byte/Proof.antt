@@ -1,9 +1,9 @@
--- `desk_text::output::write_byte` meets its contract.
+-- `text::output::write_byte` meets its contract.
 -- Assumes nothing.
 use borrow.Author.Needs.{needs}
 use Rattle.stores.proofs.Written.{written-one}
-use Rattle.desk_text.proofs.output.write_byte.Statement.{statement}
-use Rattle.desk_text.proofs.output.write_byte.Tie as tie
+use Rattle.text.proofs.output.write_byte.Statement.{statement}
+use Rattle.text.proofs.output.write_byte.Tie as tie
 
 slice-write-out : tie.Need-slice-write-out
 slice-write-out c = search needs

@@ -1,14 +1,14 @@
--- `desk_text::script::next_line` meets its contract. The invariant: the lines from `from` on are those from `start` on.
+-- `text::script::next_line` meets its contract. The invariant: the lines from `from` on are those from `start` on.
 -- Assumes nothing.
 use mathlib.Core.Path.{_≡_, refl, _∙_}
 use Prim.Native.Nat.{_-_, _≤_}
 use lib.ListN.{length, drop}
 use native.Mathlib.Omega.{arith}
 use borrow.Author.Needs.{needs}
-use Rattle.desk_text.specs.Parts.{linesOf}
-use Rattle.desk_text.proofs.Lines.{lines-skip, line-found, line-none}
-use Rattle.desk_text.proofs.script.next_line.Statement.{statement}
-use Rattle.desk_text.proofs.script.next_line.Tie as tie
+use Rattle.text.specs.Parts.{linesOf}
+use Rattle.text.proofs.Lines.{lines-skip, line-found, line-none}
+use Rattle.text.proofs.script.next_line.Statement.{statement}
+use Rattle.text.proofs.script.next_line.Tie as tie
 
 abbrev Inv-loop : tie.InvT-loop
 Inv-loop script from start₀ start-end start =

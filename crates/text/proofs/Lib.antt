@@ -1,0 +1,5 @@
+-- The laws of texts.
+pub mod Digits
+pub mod Parts
+pub mod Lines
+pub mod Samples
