@@ -20,15 +20,15 @@ use Rattle.replies.specs.Replies.{unless}
 use Rattle.rules.specs.Put.{directoryTests}
 use Rattle.rules.proofs.Keys.{width-pos}
 use Rattle.rules.proofs.Scan.{leader-zero, led, next-leads, valid-aligned, valid-at}
-use Rattle.directory.specs.declared.scan.Block.{Block}
+use Rattle.directory.specs.declared.scan.LedBlock.{LedBlock}
 use Rattle.directory.specs.declared.scan.Verdict.{Verdict}
 use Rattle.directory.specs.declared.scan.Verdict.the-variants.{Broken}
-use Rattle.directory.specs.declared.scan.Step.{Step}
-use Rattle.directory.specs.declared.scan.Step.the-variants.{In, Stop}
-use Rattle.directory.specs.Scans.{verdictOf, ledBlock, scanAt}
+use Rattle.directory.specs.declared.scan.ScanStep.{ScanStep}
+use Rattle.directory.specs.declared.scan.ScanStep.the-variants.{In, Stop}
+use Rattle.directory.specs.Scans.{verdictOf, blockLedBy, scanAt}
 
 -- A pass has come to index i. The block b of the index before, if there was one, begins at `start`, and ends at i or behind it.
-pub record Passing (a : List ℕ) (g S i : ℕ) (b : Block) : Type 0 where
+pub record Passing (a : List ℕ) (g S i : ℕ) (b : LedBlock) : Type 0 where
   pub start : ℕ
   pub from : start ≤ i
   pub to : i ≤ b .end
@@ -38,7 +38,7 @@ pub record Passing (a : List ℕ) (g S i : ℕ) (b : Block) : Type 0 where
   pub leader-behind : leader a g (b .end) ≡ b .end
 
 -- The pass has found the block b of index i: its leader is valid and its leading entry known.
-pub record Found (a : List ℕ) (g S i : ℕ) (b : Block) : Type 0 where
+pub record Found (a : List ℕ) (g S i : ℕ) (b : LedBlock) : Type 0 where
   pub passing : Passing a g S (i + 1) b
   pub leading-is : leadingEntry a g i ≡ b .leading
   pub leader-valid : validLeader g S (leader a g i) (leadingEntry a g i) ≡ true
@@ -66,7 +66,7 @@ at-start a g S =
       leader-behind = leader-zero a g;
     }
 
-module _ (a : List ℕ) (g S i : ℕ) (b : Block) (p : Passing a g S i b) where
+module _ (a : List ℕ) (g S i : ℕ) (b : LedBlock) (p : Passing a g S i b) where
   -- In the block of the index before.
   pub same-block : i < b .end → Found a g S i b
   same-block h =
@@ -94,7 +94,7 @@ module _ (a : List ℕ) (g S i : ℕ) (b : Block) (p : Passing a g S i b) where
       let e : b .end ≡ i = omega arith in
       rw e at (p .leader-behind)
 
-  pub new-block : b .end ≤ i → validLeader g S i (entryAt a g i) ≡ true → Found a g S i (ledBlock g i (entryAt a g i))
+  pub new-block : b .end ≤ i → validLeader g S i (entryAt a g i) ≡ true → Found a g S i (blockLedBy g i (entryAt a g i))
   new-block h v =
       let own : leader a g i ≡ i = leads-itself h in
       let aligned : i % width g (localDepth (entryAt a g i)) ≡ 0 = valid-aligned g S i (entryAt a g i) v in
@@ -116,7 +116,7 @@ module _ (a : List ℕ) (g S i : ℕ) (b : Block) (p : Passing a g S i b) where
 
   -- Where a leader is known to be valid, the block that the pass goes on with is that of index i.
   pub block-found : (b .end ≤ i → validLeader g S i (entryAt a g i) ≡ true)
-      → Found a g S i (pick (ltb i (b .end)) b (ledBlock g i (entryAt a g i)))
+      → Found a g S i (pick (ltb i (b .end)) b (blockLedBy g i (entryAt a g i)))
   block-found v =
       ⊎-elim
       (λ (t : ltb i (b .end) ≡ true). rw t (same-block (ltb-true i (b .end) t)))
@@ -124,7 +124,7 @@ module _ (a : List ℕ) (g S i : ℕ) (b : Block) (p : Passing a g S i b) where
       (cases (ltb i (b .end)))
 
   -- A step of the scan goes on in the block of index i. It stops only where that index has a leader that is not valid.
-  pub step-in : (agree : Bool) (n : Block) (still : Bool) → In n still ≡ scanAt g S i (entryAt a g i) b agree
+  pub step-in : (agree : Bool) (n : LedBlock) (still : Bool) → In n still ≡ scanAt g S i (entryAt a g i) b agree
       → Found a g S i n × (still ≡ agree && eqb (entryAt a g i) (n .leading))
   unfolding scanAt
   step-in agree n still e =
@@ -137,9 +137,9 @@ module _ (a : List ℕ) (g S i : ℕ) (b : Block) (p : Passing a g S i b) where
       (λ (t : ltb i (b .end) ≡ false).
       ⊎-elim
       (λ (v : validLeader g S i (entryAt a g i) ≡ true).
-      let q : In n still ≡ In (ledBlock g i (entryAt a g i)) agree = rw (t, v) at e in
-      let o : ledBlock g i (entryAt a g i) ≡ n = cc in
-      let l : n .leading ≡ entryAt a g i = ap (λ (x : Block). x .leading) (sym o) in
+      let q : In n still ≡ In (blockLedBy g i (entryAt a g i)) agree = rw (t, v) at e in
+      let o : blockLedBy g i (entryAt a g i) ≡ n = cc in
+      let l : n .leading ≡ entryAt a g i = ap (λ (x : LedBlock). x .leading) (sym o) in
       let u : still ≡ agree = cc in
       (rw o at (new-block (ltb-false i (b .end) t) v), rw (l, eq-eqb (entryAt a g i) (entryAt a g i) refl) (u ∙ sym (and-unit agree))))
       (λ (v : validLeader g S i (entryAt a g i) ≡ false).
@@ -161,7 +161,7 @@ module _ (a : List ℕ) (g S i : ℕ) (b : Block) (p : Passing a g S i b) where
       (λ (t : ltb i (b .end) ≡ false).
       ⊎-elim
       (λ (v : validLeader g S i (entryAt a g i) ≡ true).
-      let q : Stop r ≡ In (ledBlock g i (entryAt a g i)) agree = rw (t, v) at e in
+      let q : Stop r ≡ In (blockLedBy g i (entryAt a g i)) agree = rw (t, v) at e in
       let z : _≡_ {A = ℕ} 0 1 = cc in
       absurd (omega arith))
       (λ (v : validLeader g S i (entryAt a g i) ≡ false).
@@ -173,7 +173,7 @@ module _ (a : List ℕ) (g S i : ℕ) (b : Block) (p : Passing a g S i b) where
 -- ---- The scan's verdict
 
 -- Of the indices below i every leader is valid, and `agree` says whether every entry equals its leader's.
-pub record Scanned (a : List ℕ) (g S i : ℕ) (b : Block) (agree : Bool) : Type 0 where
+pub record Scanned (a : List ℕ) (g S i : ℕ) (b : LedBlock) (agree : Bool) : Type 0 where
   pub passing : Passing a g S i b
   pub leaders-valid : allBelow (λ j. validLeader g S (leader a g j) (leadingEntry a g j)) i ≡ true
   pub agreeing : agree ≡ allBelow (λ j. eqb (entryAt a g j) (leadingEntry a g j)) i
@@ -182,7 +182,7 @@ pub scan-start : (a : List ℕ) (g S : ℕ) → Scanned a g S 0 (record { leadin
 unfolding allBelow
 scan-start a g S = record { passing = at-start a g S; leaders-valid = refl; agreeing = refl }
 
-pub scan-goes-on : (a : List ℕ) (g S i : ℕ) (b n : Block) (agree still : Bool) (t : Step) → Scanned a g S i b agree
+pub scan-goes-on : (a : List ℕ) (g S i : ℕ) (b n : LedBlock) (agree still : Bool) (t : ScanStep) → Scanned a g S i b agree
     → t ≡ In n still → t ≡ scanAt g S i (entryAt a g i) b agree → Scanned a g S (i + 1) n still
 unfolding allBelow
 scan-goes-on a g S i b n agree still t s q e =
@@ -199,7 +199,7 @@ module _ (a : List ℕ) where
   verdict-of-broken e = rw e
 
   -- A leader that is not valid decides.
-  pub scan-stops : (i : ℕ) (b : Block) (agree : Bool) (r : Verdict) (t : Step) → i < 2 ^ depth a → Scanned a (depth a) (segments a) i b agree
+  pub scan-stops : (i : ℕ) (b : LedBlock) (agree : Bool) (r : Verdict) (t : ScanStep) → i < 2 ^ depth a → Scanned a (depth a) (segments a) i b agree
       → t ≡ Stop r → t ≡ scanAt (depth a) (segments a) i (entryAt a (depth a) i) b agree → verdictOf r ≡ directoryTests a none
   scan-stops i b agree r t h s q e =
       let p = step-stop a (depth a) (segments a) i b (s .passing) agree r (sym q ∙ e) in
@@ -210,7 +210,7 @@ module _ (a : List ℕ) where
       (λ t. t)
       (cases (leadersValid a (depth a) (segments a)))))
 
-  module _ (i : ℕ) (b : Block) (agree : Bool) (end : i ≡ 2 ^ depth a) (s : Scanned a (depth a) (segments a) i b agree) where
+  module _ (i : ℕ) (b : LedBlock) (agree : Bool) (end : i ≡ 2 ^ depth a) (s : Scanned a (depth a) (segments a) i b agree) where
     pub all-valid : leadersValid a (depth a) (segments a) ≡ true
     unfolding leadersValid
     all-valid = rw end at (s .leaders-valid)

@@ -14,10 +14,10 @@ use Rattle.rules.specs.Layout.{depth, maxDepth, segments, header, entryAddress,
 use Rattle.rules.specs.Split.{doubling}
 use Rattle.rules.proofs.Words.{entry-from}
 use Rattle.rules.proofs.Doubling.{doubledEntries, doubling-parts}
-use Rattle.directory.specs.declared.header.Header.{Header}
-use Rattle.directory.specs.Headers.{Describes}
-use Rattle.directory.proofs.Entries.{next-address, entry-word}
-use Rattle.directory.proofs.Loops.{after-turn, executed-elsewhere}
+use Rattle.layout.specs.declared.header.Header.{Header}
+use Rattle.layout.specs.Headers.{Describes}
+use Rattle.layout.proofs.Entries.{next-address, entry-word}
+use Rattle.stores.proofs.Loops.{after-turn, executed-elsewhere}
 
 -- The store of entry e of the next depth.
 abbrev pub doubledEntry : List ℕ → (e : ℕ) → List Store

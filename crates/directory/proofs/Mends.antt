@@ -16,13 +16,13 @@ use Rattle.rules.specs.Scan.{leadingEntry, leadersValid}
 use Rattle.rules.specs.Mend.{mendEntry, mending}
 use Rattle.rules.proofs.Words.{entry-inj}
 use Rattle.rules.proofs.Scan.{valid-at, valid-at-depth}
-use Rattle.directory.specs.declared.header.Header.{Header}
-use Rattle.directory.specs.declared.scan.Block.{Block}
-use Rattle.directory.specs.Headers.{Describes}
-use Rattle.directory.specs.Scans.{ledBlock}
+use Rattle.layout.specs.declared.header.Header.{Header}
+use Rattle.directory.specs.declared.scan.LedBlock.{LedBlock}
+use Rattle.layout.specs.Headers.{Describes}
+use Rattle.directory.specs.Scans.{blockLedBy}
 use Rattle.directory.specs.Updates.{correction}
-use Rattle.directory.proofs.Entries.{entry-address, entry-word}
-use Rattle.directory.proofs.Loops.{after-turn, executed-elsewhere}
+use Rattle.layout.proofs.Entries.{entry-address, entry-word}
+use Rattle.stores.proofs.Loops.{after-turn, executed-elsewhere}
 use Rattle.directory.proofs.Blocks.{Passing, Found, leads-itself, block-found}
 
 -- One entry asks at most one store.
@@ -45,7 +45,7 @@ module _ {h : Header} {a : List ℕ} (d : Describes h a) (count allowed due : �
       ((λ x. omega (arith, entry-inj (depth a) j i (x ∙ here))), Prim.tt)) in
       executed-elsewhere (count + i) p apart ∙ entry-word count i d counted
 
-  module _ (v : leadersValid a (depth a) (segments a) ≡ true) (i : ℕ) (k : i < count) (x : Block)
+  module _ (v : leadersValid a (depth a) (segments a) ≡ true) (i : ℕ) (k : i < count) (x : LedBlock)
       (w : Passing a (depth a) (segments a) i x) where
     below : i < 2 ^ depth a
     below = rw (d .depth-read) (omega arith)
@@ -58,24 +58,24 @@ module _ {h : Header} {a : List ℕ} (d : Describes h a) (count allowed due : �
         let g : depth a ≡ h .depth = d .depth-read in
         omega arith
 
-    pub mend-block : Found a (depth a) (segments a) i (pick (ltb i (x .end)) x (ledBlock (depth a) i (entryAt a (depth a) i)))
+    pub mend-block : Found a (depth a) (segments a) i (pick (ltb i (x .end)) x (blockLedBy (depth a) i (entryAt a (depth a) i)))
     mend-block =
         block-found a (depth a) (segments a) i x w
         (λ e. let own = leads-itself a (depth a) (segments a) i x w e in rw own at (valid-at a (depth a) (segments a) i v below))
 
   -- The block that a turn goes on with is that of its index.
-  pub mend-found : leadersValid a (depth a) (segments a) ≡ true → (i total : ℕ) (b : List ℕ) (x n : Block) → i < count
+  pub mend-found : leadersValid a (depth a) (segments a) ≡ true → (i total : ℕ) (b : List ℕ) (x n : LedBlock) → i < count
       → Passing a (depth a) (segments a) i x → Executed (each (mendEntry a (depth a)) i) allowed due a total b
-      → n ≡ pick (ltb i (x .end)) x (ledBlock (h .depth) i (word b (count + i))) → Found a (depth a) (segments a) i n
+      → n ≡ pick (ltb i (x .end)) x (blockLedBy (h .depth) i (word b (count + i))) → Found a (depth a) (segments a) i n
   mend-found v i total b x n k w p e = rw (e, mend-read i total b p, ← d .depth-read) (mend-block v i k x w)
 
-  pub mend-count : (i total : ℕ) (b : List ℕ) (total′ : ℕ) (b′ : List ℕ) (x : Block)
+  pub mend-count : (i total : ℕ) (b : List ℕ) (total′ : ℕ) (b′ : List ℕ) (x : LedBlock)
       → Executed (correction b (count + i) (x .leading)) allowed total b total′ b′
       → total′ ≤ total + 1
   mend-count i total b total′ b′ x q =
       omega (arith, q .count, at-most-one (eqb (word b (count + i)) (x .leading)) (store (count + i) (x .leading)))
 
-  pub mend-turn : (i total : ℕ) (b : List ℕ) (total′ : ℕ) (b′ : List ℕ) (x : Block) → Found a (depth a) (segments a) i x
+  pub mend-turn : (i total : ℕ) (b : List ℕ) (total′ : ℕ) (b′ : List ℕ) (x : LedBlock) → Found a (depth a) (segments a) i x
       → Executed (each (mendEntry a (depth a)) i) allowed due a total b
       → Executed (correction b (count + i) (x .leading)) allowed total b total′ b′
       → Executed (each (mendEntry a (depth a)) (i + 1)) allowed due a total′ b′

@@ -18,7 +18,8 @@ use Rattle.rules.specs.Layout.{entryAddress, entry}
 use Rattle.rules.specs.Keys.{width}
 use Rattle.rules.specs.Split.{halfEntry, updating}
 use Rattle.rules.proofs.Keys.{width-half}
-use Rattle.directory.specs.Updates.{filling, Splittable}
+use Rattle.directory.specs.Updates.{filling, updatingOf, Updatable}
+use Rattle.directory.specs.declared.update.Halves.{Halves}
 
 -- The first m turns of a loop, and then the others.
 each-join : (f : ℕ → List Store) (m n : ℕ) → each f (m + n) ≡ each f m ++ each (λ t. f (m + t)) n
@@ -65,29 +66,31 @@ pub length-filling : (first count e : ℕ) → length (filling first count e) �
 unfolding filling
 length-filling first count e = length-each-ones (λ t. store (first + (count - suc t)) e) count
 
--- What a block that can be split says of its halves.
-pub record Halves (g L start : ℕ) (a : List ℕ) : Type 0 where
-  pub both : start + width g (L + 1) + width g (L + 1) ≤ 2 ^ g
-  pub entries : 2 ^ g ≤ 4096
-  pub room : 2 ^ g + 2 ^ g ≤ length a
+-- What a block whose entries can be updated says of its halves.
+pub record HalvesFit (h : Halves) (a : List ℕ) : Type 0 where
+  pub both : h .start + width (h .depth) (h .«local_depth» + 1) + width (h .depth) (h .«local_depth» + 1) ≤ 2 ^ h .depth
+  pub entries : 2 ^ h .depth ≤ 4096
+  pub room : 2 ^ h .depth + 2 ^ h .depth ≤ length a
 
-pub halves : {g L start s n : ℕ} {a : List ℕ} → Splittable g L start s n a → Halves g L start a
-halves {g} {L} {start} p =
-    let i : start + width g L ≤ 2 ^ g = p .inside in
+pub halves-fit : {h : Halves} {a : List ℕ} → Updatable h a → HalvesFit h a
+halves-fit {h} p =
+    let i : h .start + width (h .depth) (h .«local_depth») ≤ 2 ^ h .depth = p .inside in
     let r = p .room in
     record {
-      both = rw (add-one L) (omega (arith, width-half g L (p .not-full)));
+      both = rw (add-one (h .«local_depth»)) (omega (arith, width-half (h .depth) (h .«local_depth») (p .not-full)));
       entries = pow-mono {j = 12} (p .depth-high);
       room = omega arith;
     }
 
 -- Both halves stored: `left` is the address of the block's first entry, `half` the width of a half.
-pub update-done : {g L start s n : ℕ} {a : List ℕ} → Splittable g L start s n a
+pub update-done : {h : Halves} {a : List ℕ} → Updatable h a
     → (power half x y allowed due total : ℕ) (b : List ℕ) (total′ : ℕ) (b′ : List ℕ)
-    → power ≡ 2 ^ g → half ≡ width g (L + 1) → x ≡ entry s (L + 1) → y ≡ entry n (L + 1)
-    → Executed (filling (power + start + half) half y) allowed due a total b → Executed (filling (power + start) half x) allowed total b total′ b′
-    → Executed (updating g L start s n) allowed due a total′ b′
-update-done {g} {L} {start} {s} {n} {a} h power half x y allowed due total b total′ b′ e w p q u v =
-    let one : L + 1 ≡ suc L = add-one L in
-    rw (updating-halves g L start s n (h .not-full), ← one, ← e, ← w, ← p, ← q)
-    (executed-append (filling (power + start + half) half y) (filling (power + start) half x) allowed due a total b total′ b′ u v)
+    → power ≡ 2 ^ h .depth → half ≡ width (h .depth) (h .«local_depth» + 1)
+    → x ≡ entry (h .segment) (h .«local_depth» + 1) → y ≡ entry (h .«new_segment») (h .«local_depth» + 1)
+    → Executed (filling (power + h .start + half) half y) allowed due a total b
+    → Executed (filling (power + h .start) half x) allowed total b total′ b′
+    → Executed (updatingOf h) allowed due a total′ b′
+update-done {h} {a} u power half x y allowed due total b total′ b′ e w p q r l =
+    let one : h .«local_depth» + 1 ≡ suc (h .«local_depth») = add-one (h .«local_depth») in
+    rw (updating-halves (h .depth) (h .«local_depth») (h .start) (h .segment) (h .«new_segment») (u .not-full), ← one, ← e, ← w, ← p, ← q)
+    (executed-append (filling (power + h .start + half) half y) (filling (power + h .start) half x) allowed due a total b total′ b′ r l)

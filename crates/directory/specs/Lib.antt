@@ -1,6 +1,4 @@
 -- What the functions of the directory answer, in document 01's numbers.
-pub mod Headers
-pub mod Entries
 pub mod Scans
 pub mod Frees
 pub mod Updates

@@ -12,9 +12,9 @@ use Rattle.rules.specs.Keys.{width}
 use Rattle.rules.specs.Scan.{validLeader}
 use Rattle.directory.specs.declared.scan.Verdict.{Verdict}
 use Rattle.directory.specs.declared.scan.Verdict.the-variants.{Broken, Unmended, Consistent}
-use Rattle.directory.specs.declared.scan.Block.{Block}
-use Rattle.directory.specs.declared.scan.Step.{Step}
-use Rattle.directory.specs.declared.scan.Step.the-variants.{In, Stop}
+use Rattle.directory.specs.declared.scan.LedBlock.{LedBlock}
+use Rattle.directory.specs.declared.scan.ScanStep.{ScanStep}
+use Rattle.directory.specs.declared.scan.ScanStep.the-variants.{In, Stop}
 
 -- A verdict as a refusal of document 01, 'broken' or 'unmended', or none.
 abbrev pub verdictOf : Verdict → Option Refusal
@@ -23,12 +23,12 @@ verdictOf Unmended = some UnmendedRefusal
 verdictOf Consistent = none
 
 -- The block that the entry e, at index i, leads in the directory of depth g.
-abbrev pub ledBlock : (g i e : ℕ) → Block
-ledBlock g i e = record { leading = e; end = i + width g (localDepth e) }
+abbrev pub blockLedBy : (g i e : ℕ) → LedBlock
+blockLedBy g i e = record { leading = e; end = i + width g (localDepth e) }
 
 -- Where a scan in the block b stands behind the entry e of index i: in b until it ends, `agree` being false from the first
 -- entry on that differs from its leader; then in the block that e leads, if e is valid there.
-unfoldable pub scanAt : (g S i e : ℕ) → Block → Bool → Step
+unfoldable pub scanAt : (g S i e : ℕ) → LedBlock → Bool → ScanStep
 scanAt g S i e b agree =
     pick (ltb i (b .end)) (In b (pick (eqb e (b .leading)) agree false))
-    (pick (validLeader g S i e) (In (ledBlock g i e) agree) (Stop Broken))
+    (pick (validLeader g S i e) (In (blockLedBy g i e) agree) (Stop Broken))

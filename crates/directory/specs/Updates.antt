@@ -7,19 +7,21 @@ use lib.Dec.{eqb}
 use Rattle.stores.specs.Lists.{pick, each}
 use Rattle.stores.specs.Store.{Store, store, word}
 use Rattle.rules.specs.Keys.{width}
+use Rattle.rules.specs.Split.{updating}
+use Rattle.directory.specs.declared.update.Halves.{Halves}
 
--- A bound on the stores that are due before in the same call, far above what any call has: a put makes at most 9,764.
-abbrev pub dueLimit : ℕ
-dueLimit = 1000000
+-- The entries of the block can be given to its two segments, half each.
+pub record Updatable (h : Halves) (a : List ℕ) : Type 0 where
+  pub not-full : h .«local_depth» < h .depth
+  pub depth-high : h .depth ≤ 12
+  pub inside : h .start + width (h .depth) (h .«local_depth») ≤ 2 ^ h .depth
+  pub old-fits : h .segment < 2 ^ 32
+  pub new-fits : h .«new_segment» < 2 ^ 32
+  pub room : 2 ^ suc (h .depth) ≤ length a
 
--- The block of local depth L that begins at index `start` of the directory of depth g can be split into the segments s and n.
-pub record Splittable (g L start s n : ℕ) (a : List ℕ) : Type 0 where
-  pub not-full : L < g
-  pub depth-high : g ≤ 12
-  pub inside : start + width g L ≤ 2 ^ g
-  pub old-fits : s < 2 ^ 32
-  pub new-fits : n < 2 ^ 32
-  pub room : 2 ^ suc g ≤ length a
+-- The stores of step 4 of a split for such a block.
+abbrev pub updatingOf : Halves → List Store
+updatingOf h = updating (h .depth) (h .«local_depth») (h .start) (h .segment) (h .«new_segment»)
 
 -- The entry e in the words `first` to first + count - 1, from right to left.
 unfoldable pub filling : (first count e : ℕ) → List Store

@@ -1,15 +1,14 @@
 // The doubling of the directory: step 2 of a split.
-use crate::header::Header;
-use crate::header::pack_header;
-use crate::header::pow2;
+use layout::header::Header;
+use layout::header::pack_header;
+use layout::header::pow2;
 ghost use Prim.Native.Nat.{_+_, _*_, _/_, _≤_, _<_};
 ghost use mathlib.Core.List.{[], _∷_};
 ghost use lib.ListN.{length};
 ghost use Rattle.stores.specs.Store.{store, word};
-ghost use Rattle.stores.specs.Executed.{Executed};
+ghost use Rattle.stores.specs.Executed.{Executed, dueLimit};
 ghost use Rattle.rules.specs.Split.{doubling};
-ghost use Rattle.directory.specs.Headers.{Describes};
-ghost use Rattle.directory.specs.Updates.{dueLimit};
+ghost use Rattle.layout.specs.Headers.{Describes};
 
 // Stores entry `e` of the next depth, where the present directory has `count` entries.
 fn double_entry(words: &mut [u64], count: usize, e: usize, allowed: u32, due: u32) -> u32

@@ -1,10 +1,10 @@
 // The search for a free segment.
-use crate::entry::segment_of;
-use crate::header::Header;
-use crate::header::pow2;
+use layout::entry::segment_of;
+use layout::header::Header;
+use layout::header::pow2;
 ghost use mathlib.Core.Path.{_≡_};
 ghost use Rattle.rules.specs.Slots.{named, freeSegment};
-ghost use Rattle.directory.specs.Headers.{Describes};
+ghost use Rattle.layout.specs.Headers.{Describes};
 ghost use Rattle.directory.specs.Frees.{freeOf};
 
 // A free segment, if there is one.

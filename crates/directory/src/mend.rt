@@ -1,33 +1,33 @@
 // The stores of a mend.
-use crate::entry::block_width;
-use crate::entry::local_depth_of;
-use crate::header::Header;
-use crate::header::pow2;
-use crate::scan::Block;
+use crate::scan::LedBlock;
+use layout::entry::block_width;
+use layout::entry::local_depth_of;
+use layout::header::Header;
+use layout::header::pow2;
 ghost use mathlib.Core.Path.{_≡_};
 ghost use mathlib.Core.Bool.{true};
 ghost use Prim.Native.Nat.{_≤_, _<_};
 ghost use lib.Dec.{ltb};
 ghost use lib.ListN.{length};
 ghost use Rattle.stores.specs.Lists.{pick};
-ghost use Rattle.stores.specs.Executed.{Executed};
+ghost use Rattle.stores.specs.Executed.{Executed, dueLimit};
 ghost use Rattle.rules.specs.Layout.{depth, segments, localDepth};
 ghost use Rattle.rules.specs.Scan.{leadersValid};
 ghost use Rattle.rules.specs.Mend.{mending};
-ghost use Rattle.directory.specs.Headers.{Describes};
-ghost use Rattle.directory.specs.Updates.{dueLimit, correction};
-ghost use Rattle.directory.specs.Scans.{ledBlock};
+ghost use Rattle.layout.specs.Headers.{Describes};
+ghost use Rattle.directory.specs.Updates.{correction};
+ghost use Rattle.directory.specs.Scans.{blockLedBy};
 
 // The block of index `i`, whose entry is `entry`: the block of the index before, until it ends.
-fn next_block(block: Block, entry: u64, i: usize, depth: u32) -> Block
+fn next_block(block: LedBlock, entry: u64, i: usize, depth: u32) -> LedBlock
     requires { ⌜ (depth ≤ 12) × (i < 4096) × (block .end ≤ i → localDepth entry ≤ depth) ⌝ }
-    ensures { λ r. ⌜ r ≡ pick (ltb i (block .end)) block (ledBlock depth i entry) ⌝ }
+    ensures { λ r. ⌜ r ≡ pick (ltb i (block .end)) block (blockLedBy depth i entry) ⌝ }
 {
     if i < block.end {
         return block;
     }
     let end = i + block_width(depth, local_depth_of(entry));
-    Block {
+    LedBlock {
         leading: entry,
         end,
     }
@@ -52,7 +52,7 @@ pub fn mend_entries(words: &mut [u64], header: Header, allowed: u32, due: u32) -
     ensures { λ r. ⌜ Executed (mending (now (words .entry))) allowed due (now (words .entry)) r (now (words .exit)) ⌝ }
 {
     let count = pow2(header.depth);
-    let mut block = Block { leading: 0, end: 0 };
+    let mut block = LedBlock { leading: 0, end: 0 };
     let mut total = due;
     for i in 0..count {
         let at = count + i;

@@ -1,14 +1,14 @@
 // The scan of the directory over its blocks.
-use crate::entry::Entry;
-use crate::entry::block_width;
-use crate::entry::open_entry;
-use crate::header::Header;
-use crate::header::pow2;
+use layout::entry::Entry;
+use layout::entry::block_width;
+use layout::entry::open_entry;
+use layout::header::Header;
+use layout::header::pow2;
 ghost use mathlib.Core.Path.{_≡_};
 ghost use mathlib.Core.Option.{none};
 ghost use Prim.Native.Nat.{_≤_, _<_};
 ghost use Rattle.rules.specs.Put.{directoryTests};
-ghost use Rattle.directory.specs.Headers.{Describes};
+ghost use Rattle.layout.specs.Headers.{Describes};
 ghost use Rattle.directory.specs.Scans.{verdictOf, scanAt};
 
 // A leader is not valid; all are, but an entry differs from its leader; or neither.
@@ -19,29 +19,29 @@ pub enum Verdict {
 }
 
 // The block that a pass over the directory is in: its leading entry, and the index behind it.
-pub struct Block {
+pub struct LedBlock {
     pub leading: u64,
     pub end: usize,
 }
 
 // Where a scan stands behind an entry: in a block, and whether every entry so far equals its
 // leader's; or at its end.
-pub enum Step {
-    In(Block, bool),
+pub enum ScanStep {
+    In(LedBlock, bool),
     Stop(Verdict),
 }
 
 // Scans entry `i`. It is in the block of the entry before, until that ends, and then leads one. An
 // unequal entry does not stop the scan: a leader that is not valid may stand behind it.
-fn scan_entry(block: Block, agree: bool, entry: u64, i: usize, header: Header) -> Step
+fn scan_entry(block: LedBlock, agree: bool, entry: u64, i: usize, header: Header) -> ScanStep
     requires { ⌜ (header .depth ≤ 12) × (i < 4096) ⌝ }
     ensures { λ r. ⌜ r ≡ scanAt (header .depth) (header .segments) i entry block agree ⌝ }
 {
     if i < block.end {
         if entry == block.leading {
-            return Step::In(block, agree);
+            return ScanStep::In(block, agree);
         }
-        return Step::In(block, false);
+        return ScanStep::In(block, false);
     }
     let depth = header.depth;
     let Entry::At {
@@ -49,18 +49,18 @@ fn scan_entry(block: Block, agree: bool, entry: u64, i: usize, header: Header) -
         depth: local_depth,
     } = open_entry(entry, depth, header.segments)
     else {
-        return Step::Stop(Verdict::Broken);
+        return ScanStep::Stop(Verdict::Broken);
     };
     let width = block_width(depth, local_depth);
     if i & (width - 1) != 0 {
-        return Step::Stop(Verdict::Broken);
+        return ScanStep::Stop(Verdict::Broken);
     }
     let end = i + width;
-    let next = Block {
+    let next = LedBlock {
         leading: entry,
         end,
     };
-    Step::In(next, agree)
+    ScanStep::In(next, agree)
 }
 
 // One pass over the entries of the present directory.
@@ -69,15 +69,15 @@ pub fn scan(words: &[u64], header: Header) -> Verdict
     ensures { λ r. ⌜ verdictOf r ≡ directoryTests (now (words .entry)) none ⌝ }
 {
     let count = pow2(header.depth);
-    let mut block = Block { leading: 0, end: 0 };
+    let mut block = LedBlock { leading: 0, end: 0 };
     let mut agree = true;
     for i in 0..count {
         match scan_entry(block, agree, words[count + i], i, header) {
-            Step::In(next, still) => {
+            ScanStep::In(next, still) => {
                 block = next;
                 agree = still;
             }
-            Step::Stop(verdict) => return verdict,
+            ScanStep::Stop(verdict) => return verdict,
         }
     }
     if agree {

@@ -1,12 +1,11 @@
 // The update of the entries of a block that is split: step 4 of a split.
-use crate::entry::block_width;
-use crate::entry::pack_entry;
-use crate::header::pow2;
+use layout::entry::block_width;
+use layout::entry::pack_entry;
+use layout::header::pow2;
 ghost use Prim.Native.Nat.{_+_, _^_, _≤_, _<_};
 ghost use lib.ListN.{length};
-ghost use Rattle.stores.specs.Executed.{Executed};
-ghost use Rattle.rules.specs.Split.{updating};
-ghost use Rattle.directory.specs.Updates.{filling, Splittable, dueLimit};
+ghost use Rattle.stores.specs.Executed.{Executed, dueLimit};
+ghost use Rattle.directory.specs.Updates.{filling, updatingOf, Updatable};
 
 // Stores `entry` in the `count` words from `first` on, from right to left.
 fn fill_entries(
@@ -28,26 +27,29 @@ fn fill_entries(
     total
 }
 
-// Updates the entries of the block of this local depth that begins at index `start`, from right to
-// left: the right half gets the new segment, the left half keeps its own, both one deeper.
-pub fn update_entries(
-    words: &mut [u64],
-    depth: u32,
-    local_depth: u32,
-    start: usize,
-    segment: usize,
-    new_segment: usize,
-    allowed: u32,
-    due: u32,
-) -> u32
-    requires { ⌜ Splittable depth «local_depth» start segment «new_segment» (now words) × (due ≤ dueLimit) ⌝ }
-    ensures { λ r. ⌜ Executed (updating depth «local_depth» start segment «new_segment») allowed due (now (words .entry)) r (now (words .exit)) ⌝ }
+// A block of the directory of this depth, with its local depth and its first index, and the segments
+// of its left half and of its right half.
+pub struct Halves {
+    pub depth: u32,
+    pub local_depth: u32,
+    pub start: usize,
+    pub segment: usize,
+    pub new_segment: usize,
+}
+
+// Updates the entries of the block, from right to left: the right half gets the new segment, the left
+// half keeps its own, both one deeper.
+pub fn update_entries(words: &mut [u64], halves: Halves, allowed: u32, due: u32) -> u32
+    requires { ⌜ Updatable halves (now words) × (due ≤ dueLimit) ⌝ }
+    ensures { λ r. ⌜ Executed (updatingOf halves) allowed due (now (words .entry)) r (now (words .exit)) ⌝ }
 {
+    let depth = halves.depth;
+    let local_depth = halves.local_depth;
     let half = block_width(depth, local_depth + 1);
-    let left = pow2(depth) + start;
+    let left = pow2(depth) + halves.start;
     let right = left + half;
-    let left_entry = pack_entry(segment, local_depth + 1);
-    let right_entry = pack_entry(new_segment, local_depth + 1);
+    let left_entry = pack_entry(halves.segment, local_depth + 1);
+    let right_entry = pack_entry(halves.new_segment, local_depth + 1);
     let total = fill_entries(words, right, half, right_entry, allowed, due);
     fill_entries(words, left, half, left_entry, allowed, total)
 }

@@ -22,7 +22,7 @@ use Rattle.rules.specs.Keys.{index}
 use Rattle.rules.specs.Slots.{hit}
 use Rattle.replies.specs.Replies.{Said, done, absent, refused, refuse, unless, tested, replied, changed, isDone, isRefusal}
 use Rattle.rules.specs.Format.{formatTests, format}
-use Rattle.rules.specs.Get.{keySegment, keyTests, getTests, get}
+use Rattle.rules.specs.Get.{keySegment, keyTests, entryTests, getTests, get}
 use Rattle.rules.specs.Put.{putTests, put}
 use Rattle.rules.specs.Remove.{removeTests, clearedAt, remove}
 use Rattle.rules.specs.Mend.{mending, mend}
@@ -53,7 +53,7 @@ zero-key-tests inv later = rw (header-valid (shape-valid (inv .shape)))
 -- ---- Get
 
 get-of-zero : {m : Map} {g d S : ℕ} {f : ℕ → ℕ} {a : List ℕ} → Inv m g d S f a → get a 0 ≡ refused 2
-unfolding get getTests replied
+unfolding get entryTests getTests replied
 get-of-zero inv = rw (zero-key-tests inv)
 
 found-is-map : {m : Map} {g d S : ℕ} {f : ℕ → ℕ} {a : List ℕ} → Inv m g d S f a → (key : ℕ) → (key ≡ 0 → ⊥) → get a key ≡ mapSays (m key)

@@ -12,7 +12,7 @@ use Rattle.rules.specs.Layout.{entryAt, segmentOf, localDepth, segmentAddress}
 use Rattle.rules.specs.Keys.{index, blockStart}
 use Rattle.rules.specs.Scan.{leader, leadingEntry, leadersValid, entriesAgree}
 use Rattle.replies.specs.Replies.{unless}
-use Rattle.rules.specs.Get.{keyEntry, keySegment, keyTests, getTests}
+use Rattle.rules.specs.Get.{keyEntry, keySegment, keyTests, entryTests, getTests}
 use Rattle.rules.specs.Put.{directoryTests, putTests}
 use Rattle.rules.specs.Remove.{removeTests}
 use Rattle.rules.specs.Mend.{mendTests}
@@ -54,7 +54,7 @@ module _ {m : Map} {g d S : ℕ} {f : ℕ → ℕ} {a : List ℕ} (inv : Inv m g
   inv-key-tests key later nonzero = rw (header-valid (shape-valid (inv .shape)), ne-eqb key 0 nonzero)
 
   pub inv-get-tests : (key : ℕ) → (key ≡ 0 → ⊥) → getTests a key ≡ none
-  unfolding getTests unless
+  unfolding entryTests getTests unless
   inv-get-tests key nonzero =
       let l = inv .lookups-agree (index key g) (index-lt key g) in
       rw (

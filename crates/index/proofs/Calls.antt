@@ -21,7 +21,7 @@ use Rattle.rules.specs.Scan.{inRange, leadersValid}
 use Rattle.rules.specs.Slots.{hit}
 use Rattle.replies.specs.Replies.{Said, done, absent, refused, refuse, saidBy, unless, tested, replied}
 use Rattle.rules.specs.Format.{formatTests, formatStores, format}
-use Rattle.rules.specs.Get.{keyEntry, keySegment, keyTests, getTests, valueAtHit, get}
+use Rattle.rules.specs.Get.{keyEntry, keySegment, keyTests, entryTests, getTests, valueAtHit, get}
 use Rattle.rules.specs.Put.{directoryTests, putTests}
 use Rattle.rules.specs.Remove.{removeTests, clearedAt, remove}
 use Rattle.rules.specs.Mend.{mendTests, mending, mend}
@@ -84,26 +84,26 @@ module _ (a : List ℕ) (key : ℕ) (r : Answer) where
   get-answer k = record { reply = k .0; stores = k .1; words = refl }
 
   pub get-no-store : validHeader a ≡ false → Without r (refused 1) → Answered (step a 0 (Get key)) r a
-  unfolding get getTests keyTests unless replied
+  unfolding get entryTests getTests keyTests unless replied
   get-no-store e k = get-answer (rw e k)
 
   module _ (v : validHeader a ≡ true) where
     pub get-no-key : key ≡ 0 → Without r (refused 2) → Answered (step a 0 (Get key)) r a
-    unfolding get getTests keyTests unless replied
+    unfolding get entryTests getTests keyTests unless replied
     get-no-key z k = get-answer (rw (v, eq-eqb key 0 z) k)
 
     module _ (z : key ≡ 0 → ⊥) where
       pub get-broken : inRange (depth a) (segments a) (keyEntry a key) ≡ false → Without r (refused 3) → Answered (step a 0 (Get key)) r a
-      unfolding get getTests keyTests unless replied
+      unfolding get entryTests getTests keyTests unless replied
       get-broken e k = get-answer (rw (v, ne-eqb key 0 z, e) k)
 
       module _ (e : inRange (depth a) (segments a) (keyEntry a key) ≡ true) (base : ℕ) (b : keySegment a key ≡ base) where
         pub get-absent : hit a base key ≡ none → Without r absent → Answered (step a 0 (Get key)) r a
-        unfolding get getTests keyTests unless replied valueAtHit
+        unfolding get entryTests getTests keyTests unless replied valueAtHit
         get-absent h k = get-answer (rw (v, ne-eqb key 0 z, e, b, h) k)
 
         pub get-found : (j : ℕ) → hit a base key ≡ some j → Without r (done (valueAt a base j ∷ [])) → Answered (step a 0 (Get key)) r a
-        unfolding get getTests keyTests unless replied valueAtHit
+        unfolding get entryTests getTests keyTests unless replied valueAtHit
         get-found j h k = get-answer (rw (v, ne-eqb key 0 z, e, b, h) k)
 
 -- ---- Remove, whose tests are those of put

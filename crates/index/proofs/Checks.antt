@@ -15,8 +15,8 @@ use Rattle.rules.specs.Get.{keyEntry, keyTests}
 use Rattle.rules.specs.Put.{directoryTests, putTests}
 use Rattle.rules.proofs.Scan.{in-range}
 use Rattle.rules.proofs.Put.{passed}
-use Rattle.directory.specs.declared.header.Header.{Header}
-use Rattle.directory.specs.Headers.{Describes}
+use Rattle.layout.specs.declared.header.Header.{Header}
+use Rattle.layout.specs.Headers.{Describes}
 use Rattle.index.specs.declared.check.Checked.{Checked}
 use Rattle.index.specs.declared.check.Checked.the-variants.{Passed, Refused}
 use Rattle.index.specs.Checked.{CheckedBy}

@@ -31,10 +31,10 @@ use Rattle.stores.specs.Written.{Written}
 use Rattle.stores.proofs.Written.{written-append}
 use Rattle.segment.specs.Listing.{liveRecords}
 use Rattle.segment.proofs.Records.{words-append}
-use Rattle.directory.specs.declared.header.Header.{Header}
-use Rattle.directory.specs.Headers.{Describes}
-use Rattle.directory.proofs.Shapes.{bounds}
-use Rattle.directory.proofs.Entries.{entry-word}
+use Rattle.layout.specs.declared.header.Header.{Header}
+use Rattle.layout.specs.Headers.{Describes}
+use Rattle.layout.proofs.Shapes.{bounds}
+use Rattle.layout.proofs.Entries.{entry-word}
 use Rattle.index.specs.declared.listing.Block.{Block}
 use Rattle.index.specs.Blocks.{BlockRead}
 use Rattle.index.proofs.Calls.{Without}

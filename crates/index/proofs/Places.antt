@@ -15,13 +15,13 @@ use Rattle.rules.specs.Get.{keyEntry, keySegment}
 use Rattle.rules.proofs.Words.{valid-header}
 use Rattle.rules.proofs.Keys.{index-lt}
 use Rattle.rules.proofs.Scan.{range-depth, range-segment}
-use Rattle.directory.specs.declared.header.Header.{Header}
-use Rattle.directory.specs.declared.entry.Entry.{Entry}
-use Rattle.directory.specs.declared.entry.Entry.the-variants.{At, Broken}
-use Rattle.directory.specs.Headers.{Describes}
-use Rattle.directory.specs.Entries.{entrySaid, entryOf}
-use Rattle.directory.proofs.Shapes.{shape, bounds}
-use Rattle.directory.proofs.Answers.{entry-at, entry-broken}
+use Rattle.layout.specs.declared.header.Header.{Header}
+use Rattle.layout.specs.declared.entry.Entry.{Entry}
+use Rattle.layout.specs.declared.entry.Entry.the-variants.{At, Broken}
+use Rattle.layout.specs.Headers.{Describes}
+use Rattle.layout.specs.Entries.{entrySaid, entryOf}
+use Rattle.layout.proofs.Shapes.{shape, bounds}
+use Rattle.layout.proofs.Answers.{entry-at, entry-broken}
 
 -- Segments below S are whole within the array.
 pub segment-fits : {h : Header} {a : List ℕ} → Describes h a → (s : ℕ) → s < h .segments

@@ -34,15 +34,15 @@ use Rattle.rules.proofs.Keys.{index-shift}
 use Rattle.rules.proofs.Split.{Splittable, unused-falls}
 use Rattle.rules.proofs.Range.{hit-slot, usable-slot}
 use Rattle.rules.proofs.Put.{put-refused, put-found, put-into, put-too-deep, put-no-segment, put-again, put-splittable, choice-found, choice-into, free-below}
-use Rattle.directory.specs.declared.header.Header.{Header}
-use Rattle.directory.specs.declared.entry.Entry.{Entry}
-use Rattle.directory.specs.declared.entry.Entry.the-variants.{At, Broken}
+use Rattle.layout.specs.declared.header.Header.{Header}
+use Rattle.layout.specs.declared.entry.Entry.{Entry}
+use Rattle.layout.specs.declared.entry.Entry.the-variants.{At, Broken}
 use Rattle.directory.specs.declared.free.Free.{Free}
 use Rattle.directory.specs.declared.free.Free.the-variants.{Segment, Nothing}
-use Rattle.directory.specs.Headers.{Describes}
-use Rattle.directory.specs.Entries.{entrySaid, entryOf}
+use Rattle.layout.specs.Headers.{Describes}
+use Rattle.layout.specs.Entries.{entrySaid, entryOf}
 use Rattle.directory.specs.Frees.{freeOf}
-use Rattle.directory.proofs.Shapes.{bounds}
+use Rattle.layout.proofs.Shapes.{bounds}
 use Rattle.segment.specs.declared.choice.Choice.{Choice}
 use Rattle.segment.specs.declared.choice.Choice.the-variants.{Found, Into, Full}
 use Rattle.segment.specs.Answers.{choiceOf}

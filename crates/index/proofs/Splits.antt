@@ -23,10 +23,10 @@ use Rattle.rules.proofs.Keys.{index-shift, index-lt, block-end}
 use Rattle.rules.proofs.Doubling.{Entry, doubledEntries, doubling-parts, doubled-entries, Doubled, after-doubling}
 use Rattle.rules.proofs.Halving.{halving-parts}
 use Rattle.rules.proofs.Bound.{length-doubling, length-copying}
-use Rattle.directory.specs.declared.header.Header.{Header}
+use Rattle.layout.specs.declared.header.Header.{Header}
 use Rattle.directory.specs.Updates.{Splittable, dueLimit}
-use Rattle.directory.proofs.Shapes.{bounds}
-use Rattle.directory.proofs.Loops.{executed-length, executed-elsewhere}
+use Rattle.layout.proofs.Shapes.{bounds}
+use Rattle.stores.proofs.Loops.{executed-length, executed-elsewhere}
 use Rattle.index.specs.Splits.{Halvable, SplitAt}
 use Rattle.index.proofs.Places.{segment-fits}
 use Rattle.index.proofs.Parts.{segmentIn}

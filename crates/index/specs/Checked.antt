@@ -5,7 +5,7 @@ use Prim.Native.Nat.{ℕ}
 use mathlib.Core.List.{List}
 use mathlib.Core.Option.{Option, none, some}
 use Rattle.replies.specs.declared.Refusal.{Refusal}
-use Rattle.directory.specs.Headers.{Describes}
+use Rattle.layout.specs.Headers.{Describes}
 use Rattle.index.specs.declared.check.Checked.{Checked}
 use Rattle.index.specs.declared.check.Checked.the-variants.{Passed, Refused}
 

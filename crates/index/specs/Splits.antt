@@ -6,8 +6,8 @@ use mathlib.Core.List.{List}
 use lib.ListN.{length}
 use Rattle.rules.specs.Layout.{segmentOf, localDepth, segmentAddress}
 use Rattle.rules.specs.Get.{keyEntry}
-use Rattle.directory.specs.declared.header.Header.{Header}
-use Rattle.directory.specs.Headers.{Describes}
+use Rattle.layout.specs.declared.header.Header.{Header}
+use Rattle.layout.specs.Headers.{Describes}
 
 -- A segment s of local depth L can be halved into itself and the segment n, in a directory of depth g below the largest depth D.
 pub record Halvable (g D L s n : ℕ) (a : List ℕ) : Type 0 where

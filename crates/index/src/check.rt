@@ -1,9 +1,9 @@
 // The tests in front of the calls, in document 01's order.
-use directory::header::Header;
-use directory::header::HeaderRead;
-use directory::header::read_header;
 use directory::scan::Verdict;
 use directory::scan::scan;
+use layout::header::Header;
+use layout::header::HeaderRead;
+use layout::header::read_header;
 use replies::Refusal;
 ghost use mathlib.Core.Option.{none};
 ghost use Rattle.rules.specs.Put.{putTests};

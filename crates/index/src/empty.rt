@@ -1,7 +1,7 @@
 // The stores of a format.
 use crate::place::clear_keys;
 use crate::place::segment_base;
-use directory::header::pack_header;
+use layout::header::pack_header;
 use stores::store_word;
 ghost use mathlib.Core.Path.{_≡_};
 ghost use mathlib.Core.Bool.{true};

@@ -1,12 +1,12 @@
 // The listing over all blocks of the directory, from the left.
 use crate::place::SEGMENT_WORDS;
 use crate::place::segment_base;
-use directory::entry::block_key;
-use directory::entry::block_width;
-use directory::entry::local_depth_of;
-use directory::entry::segment_of;
-use directory::header::Header;
-use directory::header::pow2;
+use layout::entry::block_key;
+use layout::entry::block_width;
+use layout::entry::local_depth_of;
+use layout::entry::segment_of;
+use layout::header::Header;
+use layout::header::pow2;
 use segment::listing::count_live;
 use segment::listing::write_live;
 ghost use mathlib.Core.Path.{_≡_};
@@ -16,7 +16,7 @@ ghost use lib.ListN.{length};
 ghost use Rattle.rules.specs.Layout.{depth, segments};
 ghost use Rattle.rules.specs.Scan.{leader, leadersValid};
 ghost use Rattle.rules.specs.Listing.{records, wordsOf};
-ghost use Rattle.directory.specs.Headers.{Describes};
+ghost use Rattle.layout.specs.Headers.{Describes};
 ghost use Rattle.stores.specs.Written.{Written};
 ghost use Rattle.index.specs.Blocks.{BlockRead};
 

@@ -1,5 +1,5 @@
 // Where a segment stands; the search in it, the clearing of its keys, and its words as a value.
-use directory::header::pow2;
+use layout::header::pow2;
 use segment::probe::Hit;
 use segment::probe::find;
 use stores::store_word;

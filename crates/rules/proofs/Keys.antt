@@ -15,39 +15,69 @@ use lib.Pow.{pow-pos, pow-add, shr-shr, mod-pow-add, mod-mod-pow, field, pow-mon
 use Rattle.stores.specs.Lists.{each, allBelow}
 use Rattle.stores.proofs.Tests.{and-left, and-right, and-true, same-test}
 use Rattle.stores.proofs.Lists.{mem-each, each-mem, all-at}
-use Rattle.rules.specs.Keys.{bucket, bit, index, width, blockBits, blockStart, live, windowBucket, slotsOf, window}
+use Rattle.rules.specs.Keys.{bucket, directoryBits, bitOf, firstBits, bit, index, width, blockBits, blockStart, live, windowBucket, slotsOf, window}
+
+-- ---- Directory bits as an index
+
+bitOf-lt : (bits i : ℕ) → bitOf bits i < 2
+unfolding bitOf
+bitOf-lt bits i = omega arith
+
+pub first-zero : (bits : ℕ) → firstBits bits 0 ≡ 0
+unfolding firstBits
+first-zero bits = refl
+
+first-suc : (bits g : ℕ) → firstBits bits (suc g) ≡ 2 * firstBits bits g + bitOf bits g
+unfolding firstBits
+first-suc bits g = refl
+
+pub first-lt : (bits g : ℕ) → firstBits bits g < 2 ^ g
+first-lt bits zero = rw first-zero (omega arith)
+first-lt bits (suc g) =
+    let below : firstBits bits g < 2 ^ g = first-lt bits g in
+    let small : bitOf bits g < 2 = bitOf-lt bits g in
+    rw first-suc (omega (arith, pow-succ' 2 g))
+
+-- Without its last bit, an index is the index at the depth before; its last bit is the next directory bit.
+first-half : (bits g : ℕ) → firstBits bits (suc g) / 2 ≡ firstBits bits g
+first-half bits g =
+    let small : bitOf bits g < 2 = bitOf-lt bits g in
+    rw first-suc (omega arith)
+
+first-mod : (bits g : ℕ) → firstBits bits (suc g) % 2 ≡ bitOf bits g
+first-mod bits g =
+    let small : bitOf bits g < 2 = bitOf-lt bits g in
+    rw first-suc (omega arith)
 
 -- ---- A key's bits and its index
 
 pub bit-lt : (key i : ℕ) → bit key i < 2
 unfolding bit
-bit-lt key i = omega arith
+bit-lt key i = bitOf-lt (directoryBits key) i
+
+pub index-first : (key g : ℕ) → index key g ≡ firstBits (directoryBits key) g
+unfolding index
+index-first key g = refl
 
 pub index-zero : (key : ℕ) → index key 0 ≡ 0
 unfolding index
-index-zero key = refl
+index-zero key = first-zero (directoryBits key)
 
 pub index-suc : (key g : ℕ) → index key (suc g) ≡ 2 * index key g + bit key g
-unfolding index
-index-suc key g = refl
+unfolding index bit
+index-suc key g = first-suc (directoryBits key) g
 
 pub index-lt : (key g : ℕ) → index key g < 2 ^ g
-index-lt key zero = rw index-zero (omega arith)
-index-lt key (suc g) =
-    let below : index key g < 2 ^ g = index-lt key g in
-    let small : bit key g < 2 = bit-lt key g in
-    rw index-suc (omega (arith, pow-succ' 2 g))
+unfolding index
+index-lt key g = first-lt (directoryBits key) g
 
--- Without its last bit, an index is the index at the depth before; its last bit is the next directory bit.
 pub index-half : (key g : ℕ) → index key (suc g) / 2 ≡ index key g
-index-half key g =
-    let small : bit key g < 2 = bit-lt key g in
-    rw index-suc (omega arith)
+unfolding index
+index-half key g = first-half (directoryBits key) g
 
 pub index-mod : (key g : ℕ) → index key (suc g) % 2 ≡ bit key g
-index-mod key g =
-    let small : bit key g < 2 = bit-lt key g in
-    rw index-suc (omega arith)
+unfolding index bit
+index-mod key g = first-mod (directoryBits key) g
 
 -- ---- The width of a block
 
@@ -98,16 +128,20 @@ pub bits-full : (g i : ℕ) → blockBits g g i ≡ i
 unfolding blockBits
 bits-full g i = rw (width-full g) (div-one i)
 
--- The first L bits of a key's index are its index at depth L.
-pub index-shift : (key g L : ℕ) → L ≤ g → blockBits g L (index key g) ≡ index key L
-index-shift key zero L h =
+-- The first L bits of an index are the index at depth L.
+pub first-shift : (bits g L : ℕ) → L ≤ g → blockBits g L (firstBits bits g) ≡ firstBits bits L
+first-shift bits zero L h =
     let e : L ≡ 0 = omega arith in
-    rw e (bits-full 0 (index key 0))
-index-shift key (suc g) L h =
+    rw e (bits-full 0 (firstBits bits 0))
+first-shift bits (suc g) L h =
     ⊎-elim
-    (λ (e : L ≡ suc g). rw e (bits-full (suc g) (index key (suc g))))
-    (λ (k : L < suc g). bits-doubled g L (index key (suc g)) (le-of-suc-le-suc k) ∙ rw index-half (index-shift key g L (le-of-suc-le-suc k)))
+    (λ (e : L ≡ suc g). rw e (bits-full (suc g) (firstBits bits (suc g))))
+    (λ (k : L < suc g). bits-doubled g L (firstBits bits (suc g)) (le-of-suc-le-suc k) ∙ rw first-half (first-shift bits g L (le-of-suc-le-suc k)))
     (eq-or-lt-of-le h)
+
+pub index-shift : (key g L : ℕ) → L ≤ g → blockBits g L (index key g) ≡ index key L
+unfolding index
+index-shift key g L h = first-shift (directoryBits key) g L h
 
 pub blockBits-lt : (g L i : ℕ) → L ≤ g → i < 2 ^ g → blockBits g L i < 2 ^ L
 unfolding blockBits
@@ -245,47 +279,50 @@ pub window-each : (key : ℕ) → window key ≡ each (λ b. slotsOf (windowBuck
 unfolding window
 window-each key = refl
 
--- Directory bit number i is bit number i of key / 16.
-pub bit-shift : (key i : ℕ) → bit key i ≡ key / 16 / 2 ^ i % 2
-unfolding bit
-bit-shift key i = ap (λ (n : ℕ). n % 2) (sym (shr-shr key 4 i))
+pub bits-div : (key : ℕ) → directoryBits key ≡ key / 16
+unfolding directoryBits
+bits-div key = refl
 
--- The low bits of key / 16 give the index: the first L are one step from the first L + 1.
+-- Directory bit number i of a key by a shift.
+pub bit-shift : (key i : ℕ) → bit key i ≡ directoryBits key / 2 ^ i % 2
+unfolding bit bitOf
+bit-shift key i = refl
+
+-- The first L bits of a number are its low L bits: one step from the first L to the first L + 1.
 low-bits : (n L : ℕ) → n % 2 ^ suc L ≡ n / 2 ^ L % 2 * 2 ^ L + n % 2 ^ L
 low-bits n L = ap (λ (k : ℕ). n % 2 ^ k) (sym (one-add L)) ∙ mod-pow-add n 1 L
 
 low-fewer : (n L : ℕ) → n % 2 ^ suc L % 2 ^ L ≡ n % 2 ^ L
 low-fewer n L = ap (λ (k : ℕ). n % 2 ^ k % 2 ^ L) (sym (one-add L)) ∙ mod-mod-pow n 1 L
 
-low-last : (n L : ℕ) → n % 2 ^ suc L / 2 ^ L ≡ n / 2 ^ L % 2
+low-last : (n L : ℕ) → n % 2 ^ suc L / 2 ^ L ≡ bitOf n L
+unfolding bitOf
 low-last n L = ap (λ (k : ℕ). n % 2 ^ k / 2 ^ L) (sym (one-add L)) ∙ field n 1 L
 
--- Two keys have the same index at depth L exactly where the low L bits of key / 16 are the same.
-pub bits-index : (key other L : ℕ) → key / 16 % 2 ^ L ≡ other / 16 % 2 ^ L → index key L ≡ index other L
-bits-index key other zero e = index-zero key ∙ sym (index-zero other)
-bits-index key other (suc L) e =
-    let k = key / 16 in
-    let o = other / 16 in
+-- Two numbers have the same index at depth L exactly where their low L bits are the same.
+first-same : (k o L : ℕ) → k % 2 ^ L ≡ o % 2 ^ L → firstBits k L ≡ firstBits o L
+first-same k o zero e = first-zero k ∙ sym (first-zero o)
+first-same k o (suc L) e =
     let fewer : k % 2 ^ L ≡ o % 2 ^ L = sym (low-fewer k L) ∙ ap (λ (n : ℕ). n % 2 ^ L) e ∙ low-fewer o L in
-    let last : k / 2 ^ L % 2 ≡ o / 2 ^ L % 2 = sym (low-last k L) ∙ ap (λ (n : ℕ). n / 2 ^ L) e ∙ low-last o L in
-    rw (index-suc key L, bits-index key other L fewer, bit-shift key L, last, ← bit-shift other L) (sym (index-suc other L))
+    let last : bitOf k L ≡ bitOf o L = sym (low-last k L) ∙ ap (λ (n : ℕ). n / 2 ^ L) e ∙ low-last o L in
+    rw (first-suc k L, first-same k o L fewer, last) (sym (first-suc o L))
 
-pub index-bits : (key other L : ℕ) → index key L ≡ index other L → key / 16 % 2 ^ L ≡ other / 16 % 2 ^ L
-index-bits key other zero e = omega arith
-index-bits key other (suc L) e =
-    let fewer : index key L ≡ index other L = sym (index-half key L) ∙ ap (λ (n : ℕ). n / 2) e ∙ index-half other L in
-    let last : bit key L ≡ bit other L = sym (index-mod key L) ∙ ap (λ (n : ℕ). n % 2) e ∙ index-mod other L in
-    let shifted : key / 16 / 2 ^ L % 2 ≡ other / 16 / 2 ^ L % 2 = sym (bit-shift key L) ∙ last ∙ bit-shift other L in
-    low-bits (key / 16) L ∙ rw (shifted, index-bits key other L fewer) (sym (low-bits (other / 16) L))
+same-low : (k o L : ℕ) → firstBits k L ≡ firstBits o L → k % 2 ^ L ≡ o % 2 ^ L
+unfolding bitOf
+same-low k o zero e = omega arith
+same-low k o (suc L) e =
+    let fewer : firstBits k L ≡ firstBits o L = sym (first-half k L) ∙ ap (λ (n : ℕ). n / 2) e ∙ first-half o L in
+    let last : k / 2 ^ L % 2 ≡ o / 2 ^ L % 2 = sym (first-mod k L) ∙ ap (λ (n : ℕ). n % 2) e ∙ first-mod o L in
+    low-bits k L ∙ rw (last, same-low k o L fewer) (sym (low-bits o L))
 
--- Whether a key is live in the block of another key: by the low L bits of both.
-pub live-bits : (L other key : ℕ) → live L (index other L) key ≡ not (eqb key 0) && eqb (key / 16 % 2 ^ L) (other / 16 % 2 ^ L)
-unfolding live
-live-bits L other key =
+-- Whether a key is live in a block with these bits: by the low L bits of its own and of the block's.
+pub live-bits : (L bits key : ℕ) → live L (firstBits bits L) key ≡ not (eqb key 0) && eqb (directoryBits key % 2 ^ L) (bits % 2 ^ L)
+unfolding live index
+live-bits L bits key =
     ap (λ (t : Bool). not (eqb key 0) && t)
-    (same-test (eqb (index key L) (index other L)) (eqb (key / 16 % 2 ^ L) (other / 16 % 2 ^ L))
-    (λ t. eq-eqb _ _ (index-bits key other L (eqb-true _ _ t)))
-    (λ t. eq-eqb _ _ (bits-index key other L (eqb-true _ _ t))))
+    (same-test (eqb (firstBits (directoryBits key) L) (firstBits bits L)) (eqb (directoryBits key % 2 ^ L) (bits % 2 ^ L))
+    (λ t. eq-eqb _ _ (same-low (directoryBits key) bits L (eqb-true _ _ t)))
+    (λ t. eq-eqb _ _ (first-same (directoryBits key) bits L (eqb-true _ _ t))))
 
 -- The width of a block as a power, and the bits of a block by a shift.
 pub width-pow : (g L : ℕ) → width g L ≡ 2 ^ (g - L)
@@ -301,50 +338,44 @@ pub blockBits-shift : (g L i : ℕ) → blockBits g L i ≡ i / 2 ^ (g - L)
 unfolding blockBits width
 blockBits-shift g L i = refl
 
--- Above the bucket, a number's own bits are directory bits, the lowest one first. A further bit x in front of them is the
--- heaviest of the index.
-above-bucket : (n i : ℕ) → 16 * n / 2 ^ (4 + i) ≡ n / 2 ^ i
-above-bucket n i = rw (pow-add 2 4 i) (sym (div-div-eq-div-mul (16 * n) 16 (2 ^ i)) ∙ rw (mul-div-right n {m = 16} (omega arith)))
-
-bit-behind : (n x i : ℕ) → x < 2 → bit (16 * (2 * n + x)) (suc i) ≡ bit (16 * n) i
-unfolding bit
+-- A further bit x in front of a number's bits is the heaviest of the index.
+bit-behind : (n x i : ℕ) → x < 2 → bitOf (2 * n + x) (suc i) ≡ bitOf n i
+unfolding bitOf
 bit-behind n x i h =
     let half : (2 * n + x) / 2 ≡ n = omega arith in
-    rw (above-bucket (2 * n + x) (suc i), above-bucket n i, pow-succ' 2 i, ← div-div-eq-div-mul (2 * n + x) 2 (2 ^ i), half)
+    rw (pow-succ' 2 i, ← div-div-eq-div-mul (2 * n + x) 2 (2 ^ i), half)
 
-pub index-in-front : (n x t : ℕ) → x < 2 → index (16 * (2 * n + x)) (suc t) ≡ x * 2 ^ t + index (16 * n) t
-unfolding bit
-index-in-front n x zero h = rw (index-suc, index-zero (16 * (2 * n + x)), index-zero (16 * n)) (omega arith)
-index-in-front n x (suc t) h =
-    let before : index (16 * (2 * n + x)) (suc t) ≡ x * 2 ^ t + index (16 * n) t = index-in-front n x t h in
-    let last : bit (16 * (2 * n + x)) (suc t) ≡ bit (16 * n) t = bit-behind n x t h in
+pub first-in-front : (n x t : ℕ) → x < 2 → firstBits (2 * n + x) (suc t) ≡ x * 2 ^ t + firstBits n t
+unfolding bitOf
+first-in-front n x zero h = rw (first-suc, first-zero (2 * n + x), first-zero n) (omega arith)
+first-in-front n x (suc t) h =
+    let before : firstBits (2 * n + x) (suc t) ≡ x * 2 ^ t + firstBits n t = first-in-front n x t h in
+    let last : bitOf (2 * n + x) (suc t) ≡ bitOf n t = bit-behind n x t h in
     let twice : x * 2 ^ suc t ≡ 2 * (x * 2 ^ t) = rw pow-succ' (mul-left-comm x 2 (2 ^ t)) in
-    omega (arith, index-suc (16 * (2 * n + x)) (suc t), index-suc (16 * n) t)
+    omega (arith, first-suc (2 * n + x) (suc t), first-suc n t)
 
--- The directory bits behind the first m of a key are those of the key without them.
-bit-beyond : (key m n : ℕ) → bit key (m + n) ≡ bit (key / 2 ^ m) n
-unfolding bit
-bit-beyond key m n =
-    let sum : 4 + (m + n) ≡ m + (4 + n) = omega arith in
-    rw (sum, pow-add 2 m (4 + n), ← div-div-eq-div-mul key (2 ^ m) (2 ^ (4 + n)))
+-- The bits behind the first m are those of the number without them.
+bit-beyond : (bits m n : ℕ) → bitOf bits (m + n) ≡ bitOf (bits / 2 ^ m) n
+unfolding bitOf
+bit-beyond bits m n = rw (pow-add 2 m n, ← div-div-eq-div-mul bits (2 ^ m) (2 ^ n))
 
-pub index-joined : (key m n : ℕ) → index key (m + n) ≡ 2 ^ n * index key m + index (key / 2 ^ m) n
-index-joined key m zero = rw (index-zero (key / 2 ^ m), add-zero m) (omega arith)
-index-joined key m (suc n) =
-    let before : index key (m + n) ≡ 2 ^ n * index key m + index (key / 2 ^ m) n = index-joined key m n in
-    let twice : 2 ^ suc n * index key m ≡ 2 * (2 ^ n * index key m) = rw pow-succ' (mul-assoc 2 (2 ^ n) (index key m)) in
-    rw (add-suc, index-suc key (m + n), bit-beyond key m n, index-suc (key / 2 ^ m) n, twice) (omega (arith, before))
+pub first-joined : (bits m n : ℕ) → firstBits bits (m + n) ≡ 2 ^ n * firstBits bits m + firstBits (bits / 2 ^ m) n
+first-joined bits m zero = rw (first-zero (bits / 2 ^ m), add-zero m) (omega arith)
+first-joined bits m (suc n) =
+    let before : firstBits bits (m + n) ≡ 2 ^ n * firstBits bits m + firstBits (bits / 2 ^ m) n = first-joined bits m n in
+    let twice : 2 ^ suc n * firstBits bits m ≡ 2 * (2 ^ n * firstBits bits m) = rw pow-succ' (mul-assoc 2 (2 ^ n) (firstBits bits m)) in
+    rw (add-suc, first-suc bits (m + n), bit-beyond bits m n, first-suc (bits / 2 ^ m) n, twice) (omega (arith, before))
 
 -- The numbers below 16 with their bits in reverse order, the number of b at the 16th power b: the index at depth 4 by the
--- four bits above the bucket.
+-- four lowest bits.
 abbrev pub reversed : ℕ
 reversed = 0xF7B3D591E6A2C480
 
-four-reversed : allBelow (λ b. eqb (reversed / 2 ^ (4 * b) % 16) (index (16 * b) 4)) 16 ≡ true
-unfolding allBelow index bit
+four-reversed : allBelow (λ b. eqb (reversed / 2 ^ (4 * b) % 16) (firstBits b 4)) 16 ≡ true
+unfolding allBelow firstBits bitOf
 four-reversed = refl
 
-pub index-four : (key : ℕ) → reversed / 2 ^ (4 * (key / 16 % 16)) % 16 ≡ index key 4
-index-four key =
-    eqb-true _ _ (all-at (λ b. eqb (reversed / 2 ^ (4 * b) % 16) (index (16 * b) 4)) 16 four-reversed (key / 16 % 16) (omega arith))
-    ∙ bits-index (16 * (key / 16 % 16)) key 4 (omega arith)
+pub first-four : (bits : ℕ) → reversed / 2 ^ (4 * (bits % 16)) % 16 ≡ firstBits bits 4
+first-four bits =
+    eqb-true _ _ (all-at (λ b. eqb (reversed / 2 ^ (4 * b) % 16) (firstBits b 4)) 16 four-reversed (bits % 16) (omega arith))
+    ∙ first-same (bits % 16) bits 4 (omega arith)

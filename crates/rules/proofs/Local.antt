@@ -28,7 +28,7 @@ use Rattle.rules.specs.Scan.{inRange, validLeader, nextLeader, leader, l
 use Rattle.rules.specs.Slots.{hit, usable, firstUsable, Choice, found, into, full, choose, named, freeSegment}
 use Rattle.replies.specs.Replies.{Said, unless, tested, replied, changed}
 use Rattle.rules.specs.Format.{formatTests, format}
-use Rattle.rules.specs.Get.{keyEntry, keySegment, keyTests, getTests, valueAtHit, get}
+use Rattle.rules.specs.Get.{keyEntry, keySegment, keyTests, entryTests, getTests, valueAtHit, get}
 use Rattle.rules.specs.Split.{doubling, moves, copySlot, copying, halvingOf, halving, doublingFor, splitting}
 use Rattle.rules.specs.Put.{directoryTests, putTests, keyChoice, put}
 use Rattle.rules.specs.Remove.{removeTests, clearedAt, remove}
@@ -338,7 +338,7 @@ put-tests-same {a} {b} s key =
     (λ h. unless-same NoKey refl (λ k. directory-same s (valid-header a h) (λ l. refl)))
 
 pub get-local : {a b : List ℕ} → Agree a b → (key : ℕ) → get a key ≡ get b key
-unfolding get getTests keyTests
+unfolding get entryTests getTests keyTests
 get-local {a} {b} s key =
     replied-same
     (unless-same NoStore (header-same s)

@@ -10,12 +10,12 @@ use Rattle.stores.specs.Store.{Store, word, apply, exec}
 use Rattle.stores.specs.Plan.{Outcome, cut}
 use Rattle.rules.specs.declared.Call.{Call}
 use Rattle.rules.specs.Layout.{depthIn, maxDepthIn, segmentsIn, markIn, header, depth, wordsFor, validShape, validHeader, entryAddress, entryAt, segmentOf, localDepth, entry, segmentAddress}
-use Rattle.rules.specs.Keys.{bucket, bit, index, width, blockBits, blockStart, live, windowBucket, slotsOf, window}
+use Rattle.rules.specs.Keys.{bucket, directoryBits, bitOf, firstBits, bit, index, width, blockBits, blockStart, live, windowBucket, slotsOf, window}
 use Rattle.rules.specs.Scan.{inRange, validLeader, nextLeader, leader, leadersValid, entriesAgree}
 use Rattle.rules.specs.Slots.{hit, usable, firstUsable, chosen, choose, named, freeSegment}
 use Rattle.replies.specs.Replies.{Said, saidSame, unless, tested, replied, changed}
 use Rattle.rules.specs.Format.{formatTests, formatStores, format}
-use Rattle.rules.specs.Get.{keyEntry, keySegment, keyTests, getTests, valueAtHit, get}
+use Rattle.rules.specs.Get.{keyEntry, keySegment, keyTests, entryTests, getTests, valueAtHit, get}
 use Rattle.rules.specs.Split.{doubling, moves, copySlot, copying, halfEntry, updating, halvingOf, halving, doublingFor, splitting}
 use Rattle.rules.specs.Put.{directoryTests, putTests, keyChoice, placed, intoFree, putUnused, unused, put}
 use Rattle.rules.specs.Remove.{removeTests, clearedAt, remove}
@@ -51,7 +51,7 @@ pub data Row : Type 0 where
 
 -- A step that antt computes: an `unfolding` line that names it opens all definitions of the calls.
 unfoldable pub computed : List ℕ → (room : ℕ) → Call → Outcome Said
-unfolding each firstIn allBelow anyBelow apply exec cut depthIn maxDepthIn segmentsIn markIn header wordsFor validShape validHeader entryAddress segmentOf localDepth entry segmentAddress bucket bit index width blockBits blockStart live windowBucket slotsOf window inRange validLeader nextLeader leader leadersValid entriesAgree hit usable firstUsable chosen choose named freeSegment unless tested replied formatTests formatStores format keyEntry keySegment keyTests getTests valueAtHit get doubling moves copySlot copying halfEntry updating halvingOf halving doublingFor splitting directoryTests putTests keyChoice placed intoFree putUnused unused put removeTests clearedAt remove mendTests mendEntry mending mend liveRecord blockRecords records listTests list changed effect step
+unfolding each firstIn allBelow anyBelow apply exec cut depthIn maxDepthIn segmentsIn markIn header wordsFor validShape validHeader entryAddress segmentOf localDepth entry segmentAddress bucket directoryBits bitOf firstBits bit index width blockBits blockStart live windowBucket slotsOf window inRange validLeader nextLeader leader leadersValid entriesAgree hit usable firstUsable chosen choose named freeSegment unless tested replied formatTests formatStores format keyEntry keySegment keyTests entryTests getTests valueAtHit get doubling moves copySlot copying halfEntry updating halvingOf halving doublingFor splitting directoryTests putTests keyChoice placed intoFree putUnused unused put removeTests clearedAt remove mendTests mendEntry mending mend liveRecord blockRecords records listTests list changed effect step
 computed a room call = step a room call
 
 -- The array after some calls, each made with no list array.

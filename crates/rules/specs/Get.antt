@@ -25,9 +25,13 @@ keySegment a key = segmentAddress (maxDepth a) (segmentOf (keyEntry a key))
 unfoldable pub keyTests : List ℕ → (key : ℕ) → Option Refusal → Option Refusal
 keyTests a key later = unless (validHeader a) NoStore (unless (not (eqb key 0)) NoKey later)
 
--- Get's tests: 1, 2, then 3 where the key's entry is out of range.
+-- The test of the key's entry: 3 where it is out of range.
+unfoldable pub entryTests : List ℕ → (key : ℕ) → Option Refusal
+entryTests a key = unless (inRange (depth a) (segments a) (keyEntry a key)) Broken none
+
+-- Get's tests: 1, 2, 3.
 unfoldable pub getTests : List ℕ → (key : ℕ) → Option Refusal
-getTests a key = keyTests a key (unless (inRange (depth a) (segments a) (keyEntry a key)) Broken none)
+getTests a key = keyTests a key (entryTests a key)
 
 -- The value at a hit in the segment at `base`, or absent.
 unfoldable pub valueAtHit : List ℕ → (base : ℕ) → Option ℕ → Said

@@ -7,18 +7,36 @@ use mathlib.Core.List.{List, [], _∷_}
 use lib.Dec.{eqb}
 use Rattle.stores.specs.Lists.{each}
 
+-- ---- A key, opened
+
 -- A key's bucket.
 unfoldable pub bucket : ℕ → ℕ
 bucket key = key % 16
 
--- Directory bit number i of a key, the first being 0 (document 01: route bit). They are bits 4, 5, 6 .. of the key.
-unfoldable pub bit : (key i : ℕ) → ℕ
-bit key i = key / 2 ^ (4 + i) % 2
+-- A key's directory bits as one number, the first bit lowest (document 01: route). They are bits 4, 5, 6 .. of the key.
+unfoldable pub directoryBits : ℕ → ℕ
+directoryBits key = key / 16
 
--- A key's index in the directory of depth g: its first g directory bits, the first one heaviest.
+-- ---- Directory bits, of a key or of a block
+
+-- Bit number i of a number of directory bits, the first being 0.
+unfoldable pub bitOf : (bits i : ℕ) → ℕ
+bitOf bits i = bits / 2 ^ i % 2
+
+-- The first g bits of such a number as an index: the first one heaviest.
+unfoldable pub firstBits : (bits g : ℕ) → ℕ
+firstBits bits zero = 0
+firstBits bits (suc g) = 2 * firstBits bits g + bitOf bits g
+
+-- Directory bit number i of a key (document 01: route bit).
+unfoldable pub bit : (key i : ℕ) → ℕ
+bit key i = bitOf (directoryBits key) i
+
+-- A key's index in the directory of depth g.
 unfoldable pub index : (key g : ℕ) → ℕ
-index key zero = 0
-index key (suc g) = 2 * index key g + bit key g
+index key g = firstBits (directoryBits key) g
+
+-- ---- Blocks, live keys, the probe window
 
 -- The number of indices in a block of local depth L, in the directory of depth g.
 unfoldable pub width : (g L : ℕ) → ℕ

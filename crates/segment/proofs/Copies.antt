@@ -11,13 +11,14 @@ use lib.ListN.{length}
 use Rattle.stores.specs.Store.{store}
 use Rattle.stores.proofs.Tests.{cases}
 use Rattle.rules.specs.Split.{moves, copySlot}
-use Rattle.segment.specs.Slot.{Holds}
+use Rattle.segment.specs.Slot.{SlotHolds}
+use Rattle.segment.specs.declared.Held.{Held}
 
-module _ (a : List ℕ) (L bits j key value : ℕ) where
-  pub copy-moved : Holds a j key value → moves a 0 L bits j ≡ true
-      → copySlot a 0 0 L bits j ≡ store (2 * j + 1) value ∷ store (2 * j) key ∷ []
+module _ (a : List ℕ) (L bits j : ℕ) (h : Held) where
+  pub copy-moved : SlotHolds a j h → moves a 0 L bits j ≡ true
+      → copySlot a 0 0 L bits j ≡ store (2 * j + 1) (h .value) ∷ store (2 * j) (h .key) ∷ []
   unfolding copySlot
-  copy-moved h t = rw (t, h .key-there, h .value-there, zero-add (2 * j), zero-add (2 * j + 1))
+  copy-moved k t = rw (t, k .key-there, k .value-there, zero-add (2 * j), zero-add (2 * j + 1))
 
   pub copy-cleared : moves a 0 L bits j ≡ false → copySlot a 0 0 L bits j ≡ store (2 * j) 0 ∷ []
   unfolding copySlot

@@ -15,7 +15,8 @@ use Rattle.stores.proofs.Lists.{each-zero, each-suc}
 use Rattle.rules.specs.Layout.{keyAt, valueAt}
 use Rattle.rules.specs.Keys.{live}
 use Rattle.rules.specs.Listing.{Record, liveRecord, wordsOf}
-use Rattle.segment.specs.Slot.{Holds}
+use Rattle.segment.specs.Slot.{SlotHolds}
+use Rattle.segment.specs.declared.Held.{Held}
 use Rattle.stores.specs.Written.{Written}
 use Rattle.stores.proofs.Written.{written-none, written-pair}
 
@@ -81,12 +82,12 @@ length-words [] = refl
 length-words (r ∷ rs) = let h : length (wordsOf rs) ≡ 2 * length rs = length-words rs in omega arith
 
 -- A slot's record written, or not, by its key.
-module _ (a : List ℕ) (L bits j key value : ℕ) (k : Holds a j key value) (at : ℕ) (l : List ℕ) where
-  pub written-live : live L bits key ≡ true → at + 2 ≤ length l
-      → Written (wordsOf (liveRecord a 0 L bits j)) at l (at + 2) (set (set l at key) (at + 1) value)
-  written-live t h =
+module _ (a : List ℕ) (L bits j : ℕ) (h : Held) (k : SlotHolds a j h) (at : ℕ) (l : List ℕ) where
+  pub written-live : live L bits (h .key) ≡ true → at + 2 ≤ length l
+      → Written (wordsOf (liveRecord a 0 L bits j)) at l (at + 2) (set (set l at (h .key)) (at + 1) (h .value))
+  written-live t room =
       rw (record-live a L bits j (rw (k .key-there) t), words-one (record { key = keyAt a 0 j; value = valueAt a 0 j }), k .key-there, k .value-there)
-      (written-pair key value at l h)
+      (written-pair (h .key) (h .value) at l room)
 
-  pub written-stale : live L bits key ≡ false → Written (wordsOf (liveRecord a 0 L bits j)) at l at l
+  pub written-stale : live L bits (h .key) ≡ false → Written (wordsOf (liveRecord a 0 L bits j)) at l at l
   written-stale t = rw (record-stale a L bits j (rw (k .key-there) t), words-none) (written-none at l)

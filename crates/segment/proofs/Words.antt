@@ -6,7 +6,7 @@ use mathlib.Core.Path.{_≡_, ap}
 use mathlib.Core.List.{List}
 use Rattle.stores.specs.Store.{word}
 use Rattle.rules.specs.Layout.{keyAt, valueAt}
-use Rattle.segment.specs.Slot.{Holds}
+use Rattle.segment.specs.Slot.{SlotHolds}
 
 module _ (a : List ℕ) (j : ℕ) where
   pub key-word : keyAt a 0 j ≡ word a (2 * j)
@@ -16,5 +16,5 @@ module _ (a : List ℕ) (j : ℕ) where
   value-word = ap (word a) (zero-add (2 * j + 1))
 
   -- A slot holds what its two words say.
-  pub slot-holds : Holds a j (word a (2 * j)) (word a (2 * j + 1))
+  pub slot-holds : SlotHolds a j (record { key = word a (2 * j); value = word a (2 * j + 1) })
   slot-holds = record { key-there = key-word; value-there = value-word }

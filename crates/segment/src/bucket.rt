@@ -1,18 +1,12 @@
 // A bucket: four slots, eight words taken together as one value.
+use layout::BUCKET_WORDS;
+use layout::BUCKETS;
+use layout::key::open_key;
 ghost use Prim.Native.Nat.{_<_};
 ghost use mathlib.Core.Path.{_≡_};
 ghost use lib.ListN.{length};
-ghost use Rattle.rules.specs.Keys.{bucket, windowBucket};
+ghost use Rattle.rules.specs.Keys.{windowBucket};
 ghost use Rattle.segment.specs.Bucket.{bucketWords};
-
-// The buckets of a segment, the buckets of a key's probe window, and the slots and words of a bucket.
-pub const BUCKETS: usize = 16;
-
-pub const WINDOW_BUCKETS: usize = 4;
-
-pub const BUCKET_SLOTS: usize = 4;
-
-pub const BUCKET_WORDS: usize = 8;
 
 pub struct Bucket {
     pub words: [u64; BUCKET_WORDS],
@@ -38,17 +32,11 @@ pub(crate) fn bucket_at(segment: &[u64], number: usize) -> Bucket
     }
 }
 
-// The number of the key's bucket.
-pub(crate) fn bucket_of(key: u64) -> usize
-    ensures { λ r. ⌜ r ≡ bucket key ⌝ }
-{
-    key as usize % BUCKETS
-}
-
 // The number of bucket b of the key's probe window, bucket 0 following 15.
 pub(crate) fn window_bucket(key: u64, b: usize) -> usize
     requires { ⌜ b < 4 ⌝ }
     ensures { λ r. ⌜ r ≡ windowBucket key b ⌝ }
 {
-    (bucket_of(key) + b) % BUCKETS
+    let opened = open_key(key);
+    (opened.bucket + b) % BUCKETS
 }

@@ -1,16 +1,17 @@
 // The slot for a put.
-use crate::bucket::BUCKET_SLOTS;
 use crate::bucket::Bucket;
-use crate::bucket::WINDOW_BUCKETS;
 use crate::bucket::bucket_at;
 use crate::bucket::window_bucket;
 use crate::live::is_live;
 use crate::probe::Hit;
+use layout::BUCKET_SLOTS;
+use layout::WINDOW_BUCKETS;
+use layout::key::Block;
 ghost use Prim.Native.Nat.{_≤_, _<_};
 ghost use mathlib.Core.Path.{_≡_};
 ghost use lib.ListN.{length};
-ghost use Rattle.rules.specs.Keys.{index};
 ghost use Rattle.rules.specs.Slots.{usable, choose};
+ghost use Rattle.layout.specs.Blocks.{shared};
 ghost use Rattle.segment.specs.Bucket.{has, FirstInBucket, FirstUpToBucket};
 ghost use Rattle.segment.specs.Answers.{hitOf, choiceOf};
 
@@ -35,13 +36,13 @@ fn slot_with_key(bucket: Bucket, number: usize, key: u64) -> Hit
     Hit::Absent
 }
 
-// The first slot of the bucket that is usable in the key's segment: empty, or with a stale key.
-fn usable_slot(bucket: Bucket, number: usize, local_depth: u32, key: u64) -> Hit
-    requires { ⌜ (number < 16) × («local_depth» ≤ 12) ⌝ }
-    ensures { λ r. ⌜ FirstInBucket (λ a. usable a 0 «local_depth» (index key «local_depth»)) (bucket .words) number (hitOf r) ⌝ }
+// The first slot of the bucket that is usable in the block's segment: empty, or with a stale key.
+fn usable_slot(bucket: Bucket, number: usize, block: Block) -> Hit
+    requires { ⌜ (number < 16) × (block .«local_depth» ≤ 12) ⌝ }
+    ensures { λ r. ⌜ FirstInBucket (λ a. usable a 0 (block .«local_depth») (shared block)) (bucket .words) number (hitOf r) ⌝ }
 {
     for j in 0..BUCKET_SLOTS {
-        if !is_live(local_depth, key, bucket.words[2 * j]) {
+        if !is_live(block, bucket.words[2 * j]) {
             return Hit::At(BUCKET_SLOTS * number + j);
         }
     }
@@ -49,21 +50,21 @@ fn usable_slot(bucket: Bucket, number: usize, local_depth: u32, key: u64) -> Hit
 }
 
 // The usable slot that the buckets before this one have, or else this one's.
-fn usable_from(earlier: Hit, bucket: Bucket, number: usize, local_depth: u32, key: u64) -> Hit
-    requires { ⌜ (number < 16) × («local_depth» ≤ 12) ⌝ }
-    ensures { λ r. ⌜ FirstUpToBucket (λ a. usable a 0 «local_depth» (index key «local_depth»)) (bucket .words) number (hitOf earlier) (hitOf r) ⌝ }
+fn usable_from(earlier: Hit, bucket: Bucket, number: usize, block: Block) -> Hit
+    requires { ⌜ (number < 16) × (block .«local_depth» ≤ 12) ⌝ }
+    ensures { λ r. ⌜ FirstUpToBucket (λ a. usable a 0 (block .«local_depth») (shared block)) (bucket .words) number (hitOf earlier) (hitOf r) ⌝ }
 {
     match earlier {
         Hit::At(slot) => Hit::At(slot),
-        Hit::Absent => usable_slot(bucket, number, local_depth, key),
+        Hit::Absent => usable_slot(bucket, number, block),
     }
 }
 
-// The slot for a put of the key into its segment, of this local depth. A hit in any bucket comes
-// before a usable slot in an earlier one.
-pub fn choose(segment: &[u64], local_depth: u32, key: u64) -> Choice
-    requires { ⌜ (length (now segment) ≡ 128) × («local_depth» ≤ 12) ⌝ }
-    ensures { λ r. ⌜ choiceOf r ≡ choose (now (segment .entry)) 0 «local_depth» (index key «local_depth») key ⌝ }
+// The slot for a put of the key into the block's segment. A hit in any bucket comes before a usable
+// slot in an earlier one.
+pub fn choose(segment: &[u64], block: Block, key: u64) -> Choice
+    requires { ⌜ (length (now segment) ≡ 128) × (block .«local_depth» ≤ 12) ⌝ }
+    ensures { λ r. ⌜ choiceOf r ≡ choose (now (segment .entry)) 0 (block .«local_depth») (shared block) key ⌝ }
 {
     let mut usable = Hit::Absent;
     for b in 0..WINDOW_BUCKETS {
@@ -72,7 +73,7 @@ pub fn choose(segment: &[u64], local_depth: u32, key: u64) -> Choice
         if let Hit::At(slot) = slot_with_key(bucket, number, key) {
             return Choice::Found(slot);
         }
-        usable = usable_from(usable, bucket, number, local_depth, key);
+        usable = usable_from(usable, bucket, number, block);
     }
     match usable {
         Hit::At(slot) => Choice::Into(slot),

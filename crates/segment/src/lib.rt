@@ -8,6 +8,8 @@ pub mod listing;
 mod live;
 pub mod probe;
 
-pub const SEGMENT_WORDS: usize = 128;
-
-pub const SLOTS: usize = 64;
+// What a slot holds.
+pub(crate) struct Held {
+    pub key: u64,
+    pub value: u64,
+}

@@ -1,8 +1,8 @@
 // The search for a key in its probe window.
-use crate::bucket::BUCKET_SLOTS;
-use crate::bucket::WINDOW_BUCKETS;
 use crate::bucket::bucket_at;
 use crate::bucket::window_bucket;
+use layout::BUCKET_SLOTS;
+use layout::WINDOW_BUCKETS;
 ghost use mathlib.Core.Path.{_≡_};
 ghost use lib.ListN.{length};
 ghost use Rattle.rules.specs.Slots.{hit};

@@ -6,3 +6,4 @@ pub mod Stores
 pub mod Parts
 pub mod Plans
 pub mod Written
+pub mod Loops

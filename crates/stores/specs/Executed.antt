@@ -11,3 +11,7 @@ use Rattle.stores.specs.Store.{Store, exec}
 pub record Executed (ss : List Store) (allowed due : ℕ) (before : List ℕ) (due′ : ℕ) (after : List ℕ) : Type 0 where
   pub count : due′ ≡ due + length ss
   pub words : after ≡ exec ss (allowed - due) before
+
+-- A bound on the stores that are due before in the same call, far above what any call has: a put makes at most 9,764.
+abbrev pub dueLimit : ℕ
+dueLimit = 1000000

@@ -8,15 +8,15 @@ use borrow.Fn.Kinds.{In}
 use borrow.Fn.PlainCycle.{Measures, is, falls, and}
 use Rattle.rules.specs.Slots.{full}
 use Rattle.rules.specs.Put.{keyChoice, unused}
-use Rattle.directory.proofs.Shapes.{bounds}
+use Rattle.layout.proofs.Shapes.{bounds}
 use Rattle.index.proofs.Checks.{check-refused}
 use Rattle.index.proofs.Places.{key-index-lt}
 use Rattle.index.proofs.Puts.{Tested, KeyPlace, MustSplit, tested, entry-not-broken, key-place, local-small, place-fits, choice-full-read, found-slot, into-slot, answers-found, answers-into, answers-refused, answers-too-deep, answers-no-segment, must-split, can-split, answers-cut, put-falls, rest-allowed, answers-again}
 use Rattle.index.proofs.put.Reads as put
 use Rattle.index.proofs.put.Kinds as put-kinds
 use Rattle.index.proofs.+put.Lts-put as put-lts
-use Rattle.directory.proofs.entry.directory_index.Reads as directory-index-reads
-use Rattle.directory.proofs.entry.read_entry.Reads as read-entry-reads
+use Rattle.layout.proofs.entry.directory_index.Reads as directory-index-reads
+use Rattle.layout.proofs.entry.read_entry.Reads as read-entry-reads
 use Rattle.directory.proofs.free.free_segment.Reads as free-segment-reads
 use Rattle.index.proofs.answer.without_store.Reads as without-store-reads
 use Rattle.index.proofs.check.check_change.Reads as check-change-reads

@@ -8,8 +8,8 @@ use mathlib.Core.List.{[], _∷_}
 use lib.ListN.{length}
 use Rattle.stores.specs.Store.{word}
 use Rattle.replies.specs.Replies.{saidBy, done}
-use Rattle.directory.proofs.Shapes.{bounds}
-use Rattle.directory.proofs.Answers.{header-valid, header-not-valid}
+use Rattle.layout.proofs.Shapes.{bounds}
+use Rattle.layout.proofs.Answers.{header-valid, header-not-valid}
 use Rattle.rules.proofs.Range.{hit-slot}
 use Rattle.index.proofs.Places.{key-index-lt, located, out-of-range, segment-at}
 use Rattle.index.proofs.Calls.{get-no-store, get-no-key, get-broken, get-absent, get-found}

@@ -5,7 +5,8 @@ use mathlib.Core.Path.{ap, _∙_}
 use mathlib.Core.List.{[], _∷_}
 use Prim.Native.Nat.{ℕ}
 use Rattle.replies.specs.Replies.{saidBy, done}
-use Rattle.directory.proofs.Answers.{header-valid, header-not-valid, verdict-broken, verdict-unmended, verdict-consistent}
+use Rattle.layout.proofs.Answers.{header-valid, header-not-valid}
+use Rattle.directory.proofs.Answers.{verdict-broken, verdict-unmended, verdict-consistent}
 use Rattle.index.proofs.Listings.{list-no-store, list-broken, list-unmended, list-short, list-passed, list-refused, list-done}
 use Rattle.index.proofs.list.Statement.{statement}
 use Rattle.index.proofs.list.Tie as tie

@@ -7,7 +7,7 @@ use mathlib.Core.Path.{sym, ap, _∙_}
 use mathlib.Core.Bool.{true≢false}
 use lib.ListN.{length}
 use Rattle.replies.specs.Replies.{saidBy}
-use Rattle.directory.proofs.Shapes.{bounds}
+use Rattle.layout.proofs.Shapes.{bounds}
 use Rattle.index.proofs.Checks.{check-passed, check-refused, passed-range}
 use Rattle.rules.proofs.Range.{hit-slot}
 use Rattle.index.proofs.Places.{key-index-lt, located, out-of-range, segment-at}

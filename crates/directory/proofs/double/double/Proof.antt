@@ -7,8 +7,8 @@ use native.Mathlib.Omega.{arith}
 use lib.ListN.{length}
 use Rattle.stores.specs.Lists.{each}
 use Rattle.stores.specs.Executed.{Executed}
-use Rattle.directory.proofs.Shapes.{bounds, next-room}
-use Rattle.directory.proofs.Loops.{before-loop, executed-length}
+use Rattle.layout.proofs.Shapes.{bounds, next-room}
+use Rattle.stores.proofs.Loops.{before-loop, executed-length}
 use Rattle.directory.proofs.Doubles.{doubledEntry, double-turn, double-end}
 use Rattle.directory.proofs.double.double.Statement.{statement}
 use Rattle.directory.proofs.double.double.Tie as tie

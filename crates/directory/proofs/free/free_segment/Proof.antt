@@ -7,7 +7,7 @@ use mathlib.Core.Option.{none}
 use Prim.Native.Nat.{_-_, _≤_}
 use native.Mathlib.Omega.{arith}
 use Rattle.stores.specs.Lists.{firstIn}
-use Rattle.directory.proofs.Shapes.{bounds}
+use Rattle.layout.proofs.Shapes.{bounds}
 use Rattle.directory.proofs.Segments.{numbers, free, free-none, free-passed, free-at, free-nowhere}
 use Rattle.directory.proofs.free.free_segment.Statement.{statement}
 use Rattle.directory.proofs.free.free_segment.Tie as tie

@@ -6,8 +6,8 @@ use mathlib.Core.Bool.{false}
 use Prim.Native.Nat.{_-_, _≤_}
 use native.Mathlib.Omega.{arith}
 use Rattle.stores.specs.Lists.{anyBelow}
-use Rattle.directory.proofs.Shapes.{bounds}
-use Rattle.directory.proofs.Entries.{entry-word}
+use Rattle.layout.proofs.Shapes.{bounds}
+use Rattle.layout.proofs.Entries.{entry-word}
 use Rattle.directory.proofs.Segments.{names, named-at, passed-none, passed-entry, passed-all}
 use Rattle.directory.proofs.free.is_named.Statement.{statement}
 use Rattle.directory.proofs.free.is_named.Tie as tie

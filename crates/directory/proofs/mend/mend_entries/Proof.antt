@@ -9,8 +9,8 @@ use Rattle.stores.specs.Lists.{each}
 use Rattle.stores.specs.Executed.{Executed}
 use Rattle.rules.specs.Layout.{depth, segments}
 use Rattle.rules.specs.Mend.{mendEntry}
-use Rattle.directory.proofs.Shapes.{bounds}
-use Rattle.directory.proofs.Loops.{before-loop, executed-length}
+use Rattle.layout.proofs.Shapes.{bounds}
+use Rattle.stores.proofs.Loops.{before-loop, executed-length}
 use Rattle.directory.proofs.Blocks.{Passing, at-start}
 use Rattle.directory.proofs.Mends.{mend-read, mend-depth, mend-found, mend-count, mend-turn, mend-end}
 use Rattle.directory.proofs.mend.mend_entries.Statement.{statement}

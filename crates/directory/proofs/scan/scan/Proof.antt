@@ -4,8 +4,8 @@ use borrow.Author.Needs.{needs}
 use Prim.Native.Nat.{_-_, _≤_}
 use native.Mathlib.Omega.{arith}
 use Rattle.rules.specs.Layout.{depth, segments}
-use Rattle.directory.proofs.Shapes.{bounds}
-use Rattle.directory.proofs.Entries.{entry-word}
+use Rattle.layout.proofs.Shapes.{bounds}
+use Rattle.layout.proofs.Entries.{entry-word}
 use Rattle.directory.proofs.Blocks.{Scanned, scan-start, scan-goes-on, scan-stops, ends-consistent, ends-unmended}
 use Rattle.directory.proofs.scan.scan.Statement.{statement}
 use Rattle.directory.proofs.scan.scan.Tie as tie

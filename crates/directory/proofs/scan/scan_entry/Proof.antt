@@ -10,8 +10,8 @@ use Rattle.rules.specs.Scan.{validLeader}
 use Rattle.rules.proofs.Keys.{width-pos, width-le}
 use Rattle.rules.proofs.Scan.{range-depth}
 use Rattle.directory.specs.Scans.{scanAt}
-use Rattle.directory.proofs.Entries.{mask-width}
-use Rattle.directory.proofs.Answers.{entry-at, entry-broken}
+use Rattle.layout.proofs.Entries.{mask-width}
+use Rattle.layout.proofs.Answers.{entry-at, entry-broken}
 use Rattle.directory.proofs.scan.scan_entry.Statement.{statement}
 use Rattle.directory.proofs.scan.scan_entry.Tie as tie
 

@@ -10,7 +10,7 @@ use Rattle.stores.specs.Lists.{each}
 use Rattle.stores.specs.Store.{store}
 use Rattle.stores.specs.Executed.{Executed}
 use Rattle.directory.specs.Updates.{filling}
-use Rattle.directory.proofs.Loops.{before-loop, after-turn, executed-length}
+use Rattle.stores.proofs.Loops.{before-loop, after-turn, executed-length}
 use Rattle.directory.proofs.update.fill_entries.Statement.{statement}
 use Rattle.directory.proofs.update.fill_entries.Tie as tie
 

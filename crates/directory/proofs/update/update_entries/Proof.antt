@@ -3,8 +3,8 @@
 use borrow.Author.Needs.{needs}
 use mathlib.Core.Path.{_∙_}
 use native.Mathlib.Omega.{arith}
-use Rattle.directory.proofs.Loops.{executed-length}
-use Rattle.directory.proofs.Updates.{length-filling, halves, update-done}
+use Rattle.stores.proofs.Loops.{executed-length}
+use Rattle.directory.proofs.Updates.{length-filling, halves-fit, update-done}
 use Rattle.directory.proofs.update.update_entries.Statement.{statement}
 use Rattle.directory.proofs.update.update_entries.Tie as tie
 
@@ -18,10 +18,10 @@ pow2-requires : tie.Need-pow2-requires
 pow2-requires c κs = search needs
 
 add-left : tie.Need-add-left
-add-left c = let h = halves (c .before .before .before .pre .0) in omega arith
+add-left c = let h = halves-fit (c .before .before .before .before .pre .0) in omega arith
 
 add-right : tie.Need-add-right
-add-right c = let h = halves (c .before .before .before .pre .0) in omega arith
+add-right c = let h = halves-fit (c .before .before .before .before .pre .0) in omega arith
 
 add-pack-entry : tie.Need-add-pack-entry
 add-pack-entry c = search needs
@@ -37,19 +37,19 @@ pack-entry-requires-2 c κs = search needs
 
 fill-entries-requires : tie.Need-fill-entries-requires
 fill-entries-requires c κs =
-    let h = halves (c .before .before .before .before .before .before .pre .0) in (
-      omega (arith, c .before .before .before .pow2 .ensures, c .before .before .before .before .block-width .ensures),
-      omega (arith, c .before .before .before .before .block-width .ensures, c .before .before .before .before .before .before .pre .1),
+    let h = halves-fit (c .before .before .before .before .before .before .before .pre .0) in (
+      omega (arith, c .before .before .before .before .pow2 .ensures, c .before .before .before .before .before .block-width .ensures),
+      omega (arith, c .before .before .before .before .before .block-width .ensures, c .before .before .before .before .before .before .before .pre .1),
     )
 
 fill-entries-requires-2 : tie.Need-fill-entries-requires-2
 fill-entries-requires-2 c κs =
-    let h = halves (c .before .before .before .before .before .before .before .before .before .before .pre .0) in
+    let h = halves-fit (c .before .before .before .before .before .before .before .before .before .before .before .pre .0) in
     let p = c .before .before .before .fill-entries .ensures in
     let kept = executed-length p in
-    let w = c .before .before .before .before .before .before .before .before .block-width .ensures in (
-      omega (arith, c .before .before .before .before .before .before .before .pow2 .ensures),
-      omega (arith, c .before .before .before .before .before .before .before .before .before .before .pre .1, rw length-filling at (p .count)),
+    let w = c .before .before .before .before .before .before .before .before .before .block-width .ensures in (
+      omega (arith, c .before .before .before .before .before .before .before .before .pow2 .ensures),
+      omega (arith, c .before .before .before .before .before .before .before .before .before .before .before .pre .1, rw length-filling at (p .count)),
     )
 
 same-length : tie.Need-same-length
@@ -60,9 +60,9 @@ same-length c =
 returns : tie.Need-returns
 returns c =
     update-done
-    (c .before .before .before .before .before .before .before .before .before .before .before .before .before .pre .0) _ _ _ _ _ _ _ _ _ _
-    (c .before .before .before .before .before .before .before .before .before .before .pow2 .ensures)
-    (c .before .before .before .before .before .before .before .before .before .before .before .block-width .ensures)
+    (c .before .before .before .before .before .before .before .before .before .before .before .before .before .before .pre .0) _ _ _ _ _ _ _ _ _ _
+    (c .before .before .before .before .before .before .before .before .before .before .before .pow2 .ensures)
+    (c .before .before .before .before .before .before .before .before .before .before .before .before .block-width .ensures)
     (c .before .before .before .before .before .before .before .before .before .pack-entry .ensures)
     (c .before .before .before .before .before .before .before .before .pack-entry2 .ensures)
     (c .before .before .before .before .before .before .fill-entries .ensures) (c .before .before .fill-entries2 .ensures)

@@ -2,7 +2,7 @@
 -- Assumes nothing.
 use borrow.Author.Needs.{needs}
 use mathlib.Core.Path.{sym, _∙_}
-use Rattle.directory.proofs.Answers.{header-valid, header-not-valid}
+use Rattle.layout.proofs.Answers.{header-valid, header-not-valid}
 use Rattle.index.proofs.Checks.{tests-no-store, tests-no-key, tests-directory}
 use Rattle.index.proofs.check.check_change.Statement.{statement}
 use Rattle.index.proofs.check.check_change.Tie as tie

@@ -9,7 +9,7 @@ use lib.ListN.{length}
 use Rattle.rules.specs.Layout.{depth}
 use Rattle.rules.specs.Scan.{leader}
 use Rattle.rules.proofs.Scan.{leader-zero}
-use Rattle.directory.proofs.Shapes.{bounds}
+use Rattle.layout.proofs.Shapes.{bounds}
 use Rattle.index.proofs.Parts.{span, part-length}
 use Rattle.index.proofs.Listings.{recordsTo, records-start, records-end, turn, count-turn}
 use Rattle.index.proofs.listing.count_records.Statement.{statement}

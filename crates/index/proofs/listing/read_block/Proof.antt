@@ -3,8 +3,8 @@
 use borrow.Author.Needs.{needs}
 use native.Mathlib.Omega.{arith}
 use Rattle.rules.proofs.Keys.{width-le}
-use Rattle.directory.proofs.Shapes.{bounds}
-use Rattle.directory.proofs.Entries.{entry-word}
+use Rattle.layout.proofs.Shapes.{bounds}
+use Rattle.layout.proofs.Entries.{entry-word}
 use Rattle.index.proofs.Listings.{leader-bounds}
 use Rattle.index.proofs.listing.read_block.Statement.{statement}
 use Rattle.index.proofs.listing.read_block.Tie as tie

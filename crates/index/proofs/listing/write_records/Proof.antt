@@ -13,7 +13,7 @@ use Rattle.rules.proofs.Scan.{leader-zero}
 use Rattle.stores.specs.Written.{Written}
 use Rattle.stores.proofs.Written.{written-none}
 use Rattle.segment.proofs.Records.{words-none, length-words}
-use Rattle.directory.proofs.Shapes.{bounds}
+use Rattle.layout.proofs.Shapes.{bounds}
 use Rattle.index.proofs.Parts.{span, part-length}
 use Rattle.index.proofs.Listings.{recordsTo, records-start, records-end, turn, write-turn}
 use Rattle.index.proofs.listing.write_records.Statement.{statement}

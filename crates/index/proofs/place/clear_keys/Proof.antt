@@ -10,7 +10,7 @@ use Rattle.stores.specs.Lists.{each}
 use Rattle.stores.specs.Store.{Store, store}
 use Rattle.stores.specs.Executed.{Executed}
 use Rattle.rules.specs.Layout.{keyAddress}
-use Rattle.directory.proofs.Loops.{before-loop, after-turn, executed-length}
+use Rattle.stores.proofs.Loops.{before-loop, after-turn, executed-length}
 use Rattle.index.proofs.place.clear_keys.Statement.{statement}
 use Rattle.index.proofs.place.clear_keys.Tie as tie
 

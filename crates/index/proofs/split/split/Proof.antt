@@ -2,8 +2,8 @@
 -- Assumes nothing.
 use borrow.Author.Needs.{needs}
 use native.Mathlib.Omega.{arith}
-use Rattle.directory.proofs.Shapes.{bounds}
-use Rattle.directory.proofs.Loops.{executed-length}
+use Rattle.layout.proofs.Shapes.{bounds}
+use Rattle.stores.proofs.Loops.{executed-length}
 use Rattle.index.proofs.Splits.{halvable, doubling-due, split-halved, split-doubled}
 use Rattle.index.proofs.split.split.Statement.{statement}
 use Rattle.index.proofs.split.split.Tie as tie

@@ -6,14 +6,14 @@ use Rattle.rules.proofs.Keys.{bucket-mod, windowBucket-mod}
 use Rattle.segment.proofs.bucket.window_bucket.Statement.{statement}
 use Rattle.segment.proofs.bucket.window_bucket.Tie as tie
 
-bucket-of-requires : tie.Need-bucket-of-requires
-bucket-of-requires c κs = search needs
+open-key-requires : tie.Need-open-key-requires
+open-key-requires c κs = search needs
 
 add-result : tie.Need-add-result
-add-result c = omega (arith, bucket-mod (c .before .args .key))
+add-result c = omega (arith, bucket-mod (c .before .before .args .key), c .before .open-key .ensures .0)
 
 returns : tie.Need-returns
-returns c = omega (arith, windowBucket-mod (c .before .args .key) (c .before .args .b))
+returns c = rw (windowBucket-mod (c .before .before .args .key) (c .before .before .args .b), c .before .open-key .ensures .0)
 
 pub window-bucket-spec : {M : Type 1} → statement M
-window-bucket-spec = tie.close (tie.spec bucket-of-requires add-result returns)
+window-bucket-spec = tie.close (tie.spec open-key-requires add-result returns)

@@ -7,7 +7,7 @@ use native.Mathlib.Omega.{arith}
 use mathlib.Core.Path.{_≡_, sym, ap, _∙_}
 use mathlib.Core.Option.{none}
 use Rattle.stores.specs.Lists.{firstIn}
-use Rattle.rules.specs.Keys.{index}
+use Rattle.layout.specs.Blocks.{shared}
 use Rattle.rules.specs.Slots.{usable, chosen}
 use Rattle.rules.proofs.Keys.{windowBucket-lt}
 use Rattle.segment.specs.Answers.{hitOf}
@@ -17,13 +17,13 @@ use Rattle.segment.proofs.choice.choose.Statement.{statement}
 use Rattle.segment.proofs.choice.choose.Tie as tie
 
 abbrev Inv-loop : tie.InvT-loop
-Inv-loop segment L key slot₀ b₀ slot b =
+Inv-loop segment block key slot₀ b₀ slot b =
     (b ≤ 4)
     × (firstIn (has key segment) (windowBefore key b) ≡ none)
-    × (hitOf slot ≡ firstIn (usable segment 0 L (index key L)) (windowBefore key b))
+    × (hitOf slot ≡ firstIn (usable segment 0 (block .«local_depth») (shared block)) (windowBefore key b))
 
 abbrev μ-loop : tie.MeasureT-loop
-μ-loop segment L key slot₀ b₀ slot b = 4 - b
+μ-loop segment block key slot₀ b₀ slot b = 4 - b
 
 loop-holds : tie.Need-loop-holds Inv-loop μ-loop
 loop-holds c = (search needs, no-bucket-yet _ _, sym (no-bucket-yet _ _))
@@ -48,7 +48,7 @@ returns c =
     let first = c .before .before .before .slot-with-key .ensures (u .segment .now) (c .before .before .before .before .bucket-at .ensures) in
     let slot = c .before .slot .given in
     sym
-    (choose-found (u .segment .now) (u .local-depth) _ (u .key) (slot .0 .0)
+    (choose-found (u .segment .now) (u .block .«local_depth») _ (u .key) (slot .0 .0)
     (bucket-hit _ (u .key) (here .b) (number .result) (number .ensures) (here .inv .1) _ (search needs) (sym first ∙ ap hitOf (slot .1))))
 
 enum-told : tie.Need-enum-told Inv-loop μ-loop
@@ -89,7 +89,7 @@ returns-2 c =
     let u = c .before .before .before .before .before .before .args in
     let here = c .before .before .before .before .loop in
     let all : here .b ≡ 4 = omega arith in
-    let e = choose-else (u .segment .now) (u .local-depth) _ (u .key) _ (rw all at (here .inv .1)) (rw all at (here .inv .2)) in
+    let e = choose-else (u .segment .now) (u .block .«local_depth») _ (u .key) _ (rw all at (here .inv .1)) (rw all at (here .inv .2)) in
     sym (e ∙ ap (λ h. chosen none (hitOf h)) (c .before .usable .given .1))
 
 returns-3 : tie.Need-returns-3 Inv-loop μ-loop
@@ -98,7 +98,7 @@ returns-3 c =
     let u = c .before .before .before .before .before .args in
     let here = c .before .before .before .loop in
     let all : here .b ≡ 4 = omega arith in
-    let e = choose-else (u .segment .now) (u .local-depth) _ (u .key) _ (rw all at (here .inv .1)) (rw all at (here .inv .2)) in
+    let e = choose-else (u .segment .now) (u .block .«local_depth») _ (u .key) _ (rw all at (here .inv .1)) (rw all at (here .inv .2)) in
     sym (e ∙ ap (λ h. chosen none (hitOf h)) (c .enum-told2 .given .1))
 
 pub choose-spec : {M : Type 1} → statement M

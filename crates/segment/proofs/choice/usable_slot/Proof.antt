@@ -7,7 +7,7 @@ use mathlib.Core.Path.{_≡_, sym, _∙_}
 use mathlib.Core.List.{List}
 use mathlib.Core.Option.{none}
 use Rattle.stores.specs.Lists.{firstIn}
-use Rattle.rules.specs.Keys.{index}
+use Rattle.layout.specs.Blocks.{shared}
 use Rattle.rules.specs.Slots.{usable}
 use Rattle.segment.specs.Bucket.{bucketWords}
 use Rattle.segment.proofs.Search.{slotsBefore, no-slot-yet, slot-passed, slot-hit, no-slot, slot-usable}
@@ -15,12 +15,12 @@ use Rattle.segment.proofs.choice.usable_slot.Statement.{statement}
 use Rattle.segment.proofs.choice.usable_slot.Tie as tie
 
 abbrev Inv-loop : tie.InvT-loop
-Inv-loop number L key bucket j₀ j =
+Inv-loop number block bucket j₀ j =
     (j ≤ 4)
-    × ((a : List ℕ) → bucket .words ≡ bucketWords a number → firstIn (usable a 0 L (index key L)) (slotsBefore number j) ≡ none)
+    × ((a : List ℕ) → bucket .words ≡ bucketWords a number → firstIn (usable a 0 (block .«local_depth») (shared block)) (slotsBefore number j) ≡ none)
 
 abbrev μ-loop : tie.MeasureT-loop
-μ-loop number L key bucket j₀ j = 4 - j
+μ-loop number block bucket j₀ j = 4 - j
 
 loop-holds : tie.Need-loop-holds Inv-loop μ-loop
 loop-holds c = (search needs, λ a e. no-slot-yet _ _)
@@ -37,23 +37,23 @@ element-copy-out-is-live c = search needs
 is-live-requires : tie.Need-is-live-requires Inv-loop μ-loop
 is-live-requires c κs = search needs
 
-mul-t14 : tie.Need-mul-t14 Inv-loop μ-loop
-mul-t14 c = search needs
+mul-t13 : tie.Need-mul-t13 Inv-loop μ-loop
+mul-t13 c = search needs
 
-add-t15 : tie.Need-add-t15 Inv-loop μ-loop
-add-t15 c = search needs
+add-t14 : tie.Need-add-t14 Inv-loop μ-loop
+add-t14 c = search needs
 
 returns : tie.Need-returns Inv-loop μ-loop
 returns c =
     let u = c .before .before .before .before .before .args in
-    let L = u .local-depth in
+    let L = u .block .«local_depth» in
     let j = c .before .before .before .before .loop .j in
     let k : j < 4 = search needs in
     let test = c .before .is-live in
     λ a e.
     sym
     (slot-hit _ (u .number) j k (c .before .before .before .before .loop .inv .1 a e)
-    (slot-usable a (u .t1 .words) (u .number) j (u .key) e k L (index (u .key) L) (test .result) (test .ensures) ∙ c .if1 .taken))
+    (slot-usable a (u .t1 .words) (u .number) j 0 e k L (shared (u .block)) (test .result) (test .ensures) ∙ c .if1 .taken))
 
 add-j : tie.Need-add-j Inv-loop μ-loop
 add-j c = search needs
@@ -64,14 +64,14 @@ loop-less c = search needs
 loop-again : tie.Need-loop-again Inv-loop μ-loop
 loop-again c =
     let u = c .before .before .before .before .before .args in
-    let L = u .local-depth in
+    let L = u .block .«local_depth» in
     let j = c .before .before .before .before .loop .j in
     let k : j < 4 = search needs in
     let test = c .before .is-live in (
       search needs,
       λ a e.
           slot-passed _ (u .number) j (c .before .before .before .before .loop .inv .1 a e)
-          (slot-usable a (u .t1 .words) (u .number) j (u .key) e k L (index (u .key) L) (test .result) (test .ensures) ∙ c .if1 .left),
+          (slot-usable a (u .t1 .words) (u .number) j 0 e k L (shared (u .block)) (test .result) (test .ensures) ∙ c .if1 .left),
     )
 
 returns-2 : tie.Need-returns-2 Inv-loop μ-loop
@@ -91,8 +91,8 @@ usable-slot-spec =
     mul-is-live-2
     element-copy-out-is-live
     is-live-requires
-    mul-t14
-    add-t15
+    mul-t13
+    add-t14
     returns
     add-j
     loop-less

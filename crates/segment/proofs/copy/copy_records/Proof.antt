@@ -10,46 +10,47 @@ use Rattle.stores.specs.Lists.{each}
 use Rattle.stores.specs.Executed.{Executed}
 use Rattle.stores.proofs.Lists.{each-zero, each-suc}
 use Rattle.stores.proofs.Stores.{executed-none, executed-append}
-use Rattle.rules.specs.Keys.{index}
+use Rattle.layout.specs.Blocks.{shared}
 use Rattle.rules.specs.Split.{copySlot, copying}
+use Rattle.segment.specs.Slot.{slotCopy}
 use Rattle.segment.proofs.Words.{slot-holds}
 use Rattle.segment.proofs.Copies.{copy-short}
 use Rattle.segment.proofs.copy.copy_records.Statement.{statement}
 use Rattle.segment.proofs.copy.copy_records.Tie as tie
 
 abbrev Inv-loop : tie.InvT-loop
-Inv-loop new-segment₀ L key allowed due old due-now₀ slot₀ new-segment due-now slot =
+Inv-loop new-segment₀ block allowed due old due-now₀ slot₀ new-segment due-now slot =
     (slot ≤ 64)
     × (length new-segment ≡ length new-segment₀)
     × (due-now ≤ due + 2 * slot)
-    × Executed (each (copySlot old 0 0 L (index key L)) slot) allowed due new-segment₀ due-now new-segment
+    × Executed (each (slotCopy old block) slot) allowed due new-segment₀ due-now new-segment
 
 abbrev μ-loop : tie.MeasureT-loop
-μ-loop new-segment₀ L key allowed due old due-now₀ slot₀ new-segment due-now slot = 64 - slot
+μ-loop new-segment₀ block allowed due old due-now₀ slot₀ new-segment due-now slot = 64 - slot
 
 loop-holds : tie.Need-loop-holds Inv-loop μ-loop
 loop-holds c = (search needs, refl, search needs, rw (each-zero _) (executed-none _ _ _))
 
-mul-copy-slot : tie.Need-mul-copy-slot Inv-loop μ-loop
-mul-copy-slot c = search needs
+mul-t11 : tie.Need-mul-t11 Inv-loop μ-loop
+mul-t11 c = search needs
 
-mul-copy-slot-2 : tie.Need-mul-copy-slot-2 Inv-loop μ-loop
-mul-copy-slot-2 c = search needs
+mul-t12 : tie.Need-mul-t12 Inv-loop μ-loop
+mul-t12 c = search needs
 
-array-read-copy-slot : tie.Need-array-read-copy-slot Inv-loop μ-loop
-array-read-copy-slot c = search needs
+array-read-t15 : tie.Need-array-read-t15 Inv-loop μ-loop
+array-read-t15 c = search needs
 
-mul-copy-slot-3 : tie.Need-mul-copy-slot-3 Inv-loop μ-loop
-mul-copy-slot-3 c = search needs
+mul-t16 : tie.Need-mul-t16 Inv-loop μ-loop
+mul-t16 c = search needs
 
-add-copy-slot : tie.Need-add-copy-slot Inv-loop μ-loop
-add-copy-slot c = search needs
+add-t17 : tie.Need-add-t17 Inv-loop μ-loop
+add-t17 c = search needs
 
-mul-copy-slot-4 : tie.Need-mul-copy-slot-4 Inv-loop μ-loop
-mul-copy-slot-4 c = search needs
+mul-t18 : tie.Need-mul-t18 Inv-loop μ-loop
+mul-t18 c = search needs
 
-array-read-copy-slot-2 : tie.Need-array-read-copy-slot-2 Inv-loop μ-loop
-array-read-copy-slot-2 c = search needs
+array-read-t21 : tie.Need-array-read-t21 Inv-loop μ-loop
+array-read-t21 c = search needs
 
 copy-slot-requires : tie.Need-copy-slot-requires Inv-loop μ-loop
 copy-slot-requires c κs = search needs
@@ -64,8 +65,8 @@ loop-again : tie.Need-loop-again Inv-loop μ-loop
 loop-again c =
     let u = c .before .before .before .before .before .before .before .args in
     let old = u .t1 in
-    let L = u .local-depth in
-    let bits = index (u .key) L in
+    let L = u .block .«local_depth» in
+    let bits = shared (u .block) in
     let here = c .before .before .before .before .before .loop in
     let slot = here .slot in
     let call = c .before .before .copy-slot in
@@ -94,13 +95,13 @@ copy-records-spec =
     Inv-loop
     μ-loop
     loop-holds
-    mul-copy-slot
-    mul-copy-slot-2
-    array-read-copy-slot
-    mul-copy-slot-3
-    add-copy-slot
-    mul-copy-slot-4
-    array-read-copy-slot-2
+    mul-t11
+    mul-t12
+    array-read-t15
+    mul-t16
+    add-t17
+    mul-t18
+    array-read-t21
     copy-slot-requires
     add-slot
     loop-less

@@ -6,7 +6,7 @@ use mathlib.Core.Path.{sym, _∙_}
 use mathlib.Core.List.{[], _∷_}
 use Rattle.stores.specs.Store.{store}
 use Rattle.stores.proofs.Stores.{executed-append}
-use Rattle.rules.specs.Keys.{index}
+use Rattle.layout.specs.Blocks.{shared}
 use Rattle.segment.proofs.Copies.{copy-moved, copy-cleared}
 use Rattle.segment.proofs.copy.copy_slot.Statement.{statement}
 use Rattle.segment.proofs.copy.copy_slot.Tie as tie
@@ -32,15 +32,15 @@ same-length c = search needs
 returns : tie.Need-returns
 returns c =
     let u = c .before .before .before .before .before .before .before .before .before .before .before .args in
-    let L = u .local-depth in
-    let bits = index (u .block-key) L in
+    let L = u .block .«local_depth» in
+    let bits = shared (u .block) in
     let j = u .slot in
     let test = c .before .before .before .before .before .before .before .before .before .moves in
     let first = c .before .before .before .before .before .before .store-word in
     let second = c .before .before .store-word2 in
     λ a h.
-    rw (copy-moved a L bits j (u .key) (u .value) h (sym (test .ensures a j (h .key-there)) ∙ c .before .before .before .before .before .before .before .before .if1 .taken))
-    (executed-append (store (2 * j + 1) (u .value) ∷ []) (store (2 * j) (u .key) ∷ []) (u .allowed) (u .due) (u .new-segment .now)
+    rw (copy-moved a L bits j (u .held) h (sym (test .ensures a j (h .key-there)) ∙ c .before .before .before .before .before .before .before .before .if1 .taken))
+    (executed-append (store (2 * j + 1) (u .held .value) ∷ []) (store (2 * j) (u .held .key) ∷ []) (u .allowed) (u .due) (u .new-segment .now)
     (first .result) (first .last .0) (second .result) (second .last .0) (first .ensures) (second .ensures))
 
 store-word-requires-3 : tie.Need-store-word-requires-3
@@ -52,11 +52,11 @@ same-length-2 c = search needs
 returns-2 : tie.Need-returns-2
 returns-2 c =
     let u = c .before .before .before .before .before .before .before .args in
-    let L = u .local-depth in
+    let L = u .block .«local_depth» in
     let j = u .slot in
     let test = c .before .before .before .before .before .moves in
     λ a h.
-    rw (copy-cleared a L (index (u .block-key) L) j (u .key) (u .value) (sym (test .ensures a j (h .key-there)) ∙ c .before .before .before .before .if1 .left))
+    rw (copy-cleared a L (shared (u .block)) j (u .held) (sym (test .ensures a j (h .key-there)) ∙ c .before .before .before .before .if1 .left))
     (c .before .before .store-word3 .ensures)
 
 pub copy-slot-spec : {M : Type 1} → statement M

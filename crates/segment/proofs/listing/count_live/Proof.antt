@@ -7,18 +7,19 @@ use mathlib.Core.Path.{_≡_, sym, _∙_}
 use mathlib.Core.Logic.{⊎-elim}
 use lib.ListN.{length}
 use Rattle.rules.specs.Layout.{keyAt}
-use Rattle.rules.specs.Keys.{index, live}
+use Rattle.rules.specs.Keys.{live}
+use Rattle.layout.specs.Blocks.{shared}
 use Rattle.segment.proofs.Words.{key-word}
 use Rattle.segment.proofs.Records.{recordsBelow, records-none, count-live, count-stale}
 use Rattle.segment.proofs.listing.count_live.Statement.{statement}
 use Rattle.segment.proofs.listing.count_live.Tie as tie
 
 abbrev Inv-loop : tie.InvT-loop
-Inv-loop segment L block-key count₀ slot₀ count slot =
-    (slot ≤ 64) × (count ≤ slot) × (count ≡ length (recordsBelow segment L (index block-key L) slot))
+Inv-loop segment block count₀ slot₀ count slot =
+    (slot ≤ 64) × (count ≤ slot) × (count ≡ length (recordsBelow segment (block .«local_depth») (shared block) slot))
 
 abbrev μ-loop : tie.MeasureT-loop
-μ-loop segment L block-key count₀ slot₀ count slot = 64 - slot
+μ-loop segment block count₀ slot₀ count slot = 64 - slot
 
 loop-holds : tie.Need-loop-holds Inv-loop μ-loop
 loop-holds c = (search needs, search needs, rw records-none)
@@ -48,8 +49,8 @@ loop-again : tie.Need-loop-again Inv-loop μ-loop
 loop-again c =
     let u = c .before .before .before .before .before .before .args in
     let a = u .segment .now in
-    let L = u .local-depth in
-    let bits = index (u .block-key) L in
+    let L = u .block .«local_depth» in
+    let bits = shared (u .block) in
     let slot = c .before .before .before .before .loop .slot in
     let test = c .before .is-live in
     let seen : live L bits (keyAt a 0 slot) ≡ test .result = rw (key-word a slot) (sym (test .ensures)) in (

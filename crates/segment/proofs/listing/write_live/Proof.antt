@@ -5,7 +5,7 @@ use borrow.Author.Needs.{needs}
 use native.Mathlib.Omega.{arith}
 use mathlib.Core.Path.{_≡_, refl, _∙_}
 use lib.ListN.{length}
-use Rattle.rules.specs.Keys.{index}
+use Rattle.layout.specs.Blocks.{shared}
 use Rattle.rules.specs.Listing.{wordsOf, liveRecord}
 use Rattle.stores.specs.Written.{Written}
 use Rattle.stores.proofs.Written.{written-none, written-append}
@@ -15,44 +15,44 @@ use Rattle.segment.proofs.listing.write_live.Statement.{statement}
 use Rattle.segment.proofs.listing.write_live.Tie as tie
 
 abbrev Inv-loop : tie.InvT-loop
-Inv-loop segment L block-key list₀ at next₀ slot₀ list next slot =
+Inv-loop segment block list₀ at next₀ slot₀ list next slot =
     (slot ≤ 64)
     × (length list ≡ length list₀)
-    × Written (wordsOf (recordsBelow segment L (index block-key L) slot)) at list₀ next list
+    × Written (wordsOf (recordsBelow segment (block .«local_depth») (shared block) slot)) at list₀ next list
 
 abbrev μ-loop : tie.MeasureT-loop
-μ-loop segment L block-key list₀ at next₀ slot₀ list next slot = 64 - slot
+μ-loop segment block list₀ at next₀ slot₀ list next slot = 64 - slot
 
 loop-holds : tie.Need-loop-holds Inv-loop μ-loop
 loop-holds c = (search needs, refl, rw (records-none, words-none) (written-none _ _))
 
-mul-write-slot : tie.Need-mul-write-slot Inv-loop μ-loop
-mul-write-slot c = search needs
+mul-t9 : tie.Need-mul-t9 Inv-loop μ-loop
+mul-t9 c = search needs
 
-mul-write-slot-2 : tie.Need-mul-write-slot-2 Inv-loop μ-loop
-mul-write-slot-2 c = search needs
+mul-t10 : tie.Need-mul-t10 Inv-loop μ-loop
+mul-t10 c = search needs
 
-shared-slice-read-write-slot : tie.Need-shared-slice-read-write-slot Inv-loop μ-loop
-shared-slice-read-write-slot c = search needs
+shared-slice-read-t12 : tie.Need-shared-slice-read-t12 Inv-loop μ-loop
+shared-slice-read-t12 c = search needs
 
-mul-write-slot-3 : tie.Need-mul-write-slot-3 Inv-loop μ-loop
-mul-write-slot-3 c = search needs
+mul-t13 : tie.Need-mul-t13 Inv-loop μ-loop
+mul-t13 c = search needs
 
-add-write-slot : tie.Need-add-write-slot Inv-loop μ-loop
-add-write-slot c = search needs
+add-t14 : tie.Need-add-t14 Inv-loop μ-loop
+add-t14 c = search needs
 
-mul-write-slot-4 : tie.Need-mul-write-slot-4 Inv-loop μ-loop
-mul-write-slot-4 c = search needs
+mul-t15 : tie.Need-mul-t15 Inv-loop μ-loop
+mul-t15 c = search needs
 
-shared-slice-read-write-slot-2 : tie.Need-shared-slice-read-write-slot-2 Inv-loop μ-loop
-shared-slice-read-write-slot-2 c = search needs
+shared-slice-read-t17 : tie.Need-shared-slice-read-t17 Inv-loop μ-loop
+shared-slice-read-t17 c = search needs
 
 write-slot-requires : tie.Need-write-slot-requires Inv-loop μ-loop
 write-slot-requires c κs =
     let u = c .before .before .before .before .before .before .before .args in
     let a = u .segment .now in
-    let L = u .local-depth in
-    let bits = index (u .block-key) L in
+    let L = u .block .«local_depth» in
+    let bits = shared (u .block) in
     let here = c .before .before .before .before .loop in
     let slot = here .slot in
     let so-far : here .next ≡ u .at + length (wordsOf (recordsBelow a L bits slot)) = here .inv .2 .behind in (
@@ -71,8 +71,8 @@ loop-again : tie.Need-loop-again Inv-loop μ-loop
 loop-again c =
     let u = c .before .before .before .before .before .before .before .before .before .before .args in
     let a = u .segment .now in
-    let L = u .local-depth in
-    let bits = index (u .block-key) L in
+    let L = u .block .«local_depth» in
+    let bits = shared (u .block) in
     let here = c .before .before .before .before .before .before .before .loop in
     let slot = here .slot in
     let call = c .before .before .write-slot in (
@@ -99,13 +99,13 @@ write-live-spec =
     Inv-loop
     μ-loop
     loop-holds
-    mul-write-slot
-    mul-write-slot-2
-    shared-slice-read-write-slot
-    mul-write-slot-3
-    add-write-slot
-    mul-write-slot-4
-    shared-slice-read-write-slot-2
+    mul-t9
+    mul-t10
+    shared-slice-read-t12
+    mul-t13
+    add-t14
+    mul-t15
+    shared-slice-read-t17
     write-slot-requires
     add-slot
     loop-less

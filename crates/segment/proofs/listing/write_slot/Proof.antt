@@ -5,7 +5,7 @@ use borrow.Author.Needs.{needs}
 use native.Mathlib.Omega.{arith}
 use mathlib.Core.Path.{sym, _∙_}
 use lib.ListN.{length, length-set}
-use Rattle.rules.specs.Keys.{index}
+use Rattle.layout.specs.Blocks.{shared}
 use Rattle.segment.proofs.Records.{written-live, written-stale}
 use Rattle.segment.proofs.listing.write_slot.Statement.{statement}
 use Rattle.segment.proofs.listing.write_slot.Tie as tie
@@ -41,16 +41,16 @@ same-length c = search needs
 returns : tie.Need-returns
 returns c =
     let u = c .before .before .before .args in
-    let L = u .local-depth in
+    let L = u .block .«local_depth» in
     let lives = sym (c .before .is-live .ensures) ∙ c .if1 .taken in
-    λ a slot h. written-live a L (index (u .block-key) L) slot (u .key) (u .value) h (u .at) (u .list .now) lives (room c)
+    λ a slot h. written-live a L (shared (u .block)) slot (u .held) h (u .at) (u .list .now) lives (room c)
 
 returns-2 : tie.Need-returns-2
 returns-2 c =
     let u = c .before .before .before .args in
-    let L = u .local-depth in
+    let L = u .block .«local_depth» in
     let stale = sym (c .before .is-live .ensures) ∙ c .if1 .left in
-    λ a slot h. written-stale a L (index (u .block-key) L) slot (u .key) (u .value) h (u .at) (u .list .now) stale
+    λ a slot h. written-stale a L (shared (u .block)) slot (u .held) h (u .at) (u .list .now) stale
 
 pub write-slot-spec : {M : Type 1} → statement M
 write-slot-spec =

@@ -1,6 +1,6 @@
 -- `segment::live::is_live` meets its contract: the mask of L ones keeps the low L bits, and those give the index.
 -- Assumes nothing.
-use Prim.Native.Nat.{ℕ, _*_, _-_, _/_, _%_, _^_, _≤_}
+use Prim.Native.Nat.{ℕ, _*_, _-_, _%_, _^_, _≤_}
 use borrow.Author.Needs.{needs}
 use borrow.Author.Tests.{eq-eqb, ne-eqb}
 use native.Mathlib.Nat.{one-mul}
@@ -18,27 +18,36 @@ shifted-one L h = shl-exact {a = 1} 1 L 64 (search needs) (omega arith) ∙ one-
 masked : (L n : ℕ) → L ≤ 12 → bitAnd n (1 * 2 ^ L % 18446744073709551616 - 1) ≡ n % 2 ^ L
 masked L n h = rw (shifted-one L h) (and-mask n L)
 
+open-key-requires : tie.Need-open-key-requires
+open-key-requires c κs = search needs
+
+cast-mask : tie.Need-cast-mask
+cast-mask c = search needs
+
 shl-mask : tie.Need-shl-mask
 shl-mask c = search needs
 
 sub-mask : tie.Need-sub-mask
-sub-mask c = omega (arith, shifted-one (c .args .local-depth) (c .pre), pow-pos (c .args .local-depth))
+sub-mask c =
+    let L = c .before .before .args .block .«local_depth» in
+    omega (arith, shifted-one L (c .before .before .pre), pow-pos L)
 
 returns : tie.Need-returns
 returns c =
-    let a = c .before .args in
-    let L = a .local-depth in
+    let a = c .before .before .before .before .before .args in
+    let L = a .block .«local_depth» in
     rw (
-      masked L (a .key / 16) (c .before .pre),
-      masked L (a .block-key / 16) (c .before .pre),
-      live-bits L (a .block-key) (a .key),
-      ne-eqb (a .key) 0 (c .if1 .taken),
+      masked L (c .before .before .before .before .open-key .result .bits) (c .before .before .before .before .before .pre),
+      masked L (a .block .bits) (c .before .before .before .before .before .pre),
+      live-bits L (a .block .bits) (a .key),
+      ne-eqb (a .key) 0 (c .before .before .if1 .taken),
+      c .before .before .before .before .open-key .ensures .1,
     )
 
 returns-2 : tie.Need-returns-2
 returns-2 c =
-    let a = c .before .args in
-    rw (live-bits (a .local-depth) (a .block-key) (a .key), eq-eqb (a .key) 0 (c .if1 .left))
+    let a = c .before .before .before .args in
+    rw (live-bits (a .block .«local_depth») (a .block .bits) (a .key), eq-eqb (a .key) 0 (c .if1 .left))
 
 pub is-live-spec : {M : Type 1} → statement M
-is-live-spec = tie.close (tie.spec shl-mask sub-mask returns returns-2)
+is-live-spec = tie.close (tie.spec open-key-requires cast-mask shl-mask sub-mask returns returns-2)

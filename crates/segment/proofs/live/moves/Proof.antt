@@ -3,14 +3,21 @@
 use borrow.Author.Needs.{needs}
 use mathlib.Core.Path.{_≡_, sym, _∙_}
 use mathlib.Core.Bool.{true, false}
-use Rattle.rules.specs.Keys.{index, live}
+use Rattle.rules.specs.Keys.{live}
 use Rattle.rules.specs.Split.{moves}
 use Rattle.rules.proofs.Keys.{bit-shift}
+use Rattle.layout.specs.Blocks.{shared}
 use Rattle.segment.proofs.live.moves.Statement.{statement}
 use Rattle.segment.proofs.live.moves.Tie as tie
 
+open-key-requires : tie.Need-open-key-requires
+open-key-requires c κs = search needs
+
 is-live-requires : tie.Need-is-live-requires
 is-live-requires c κs = search needs
+
+cast-result : tie.Need-cast-result
+cast-result c = search needs
 
 shr-result : tie.Need-shr-result
 shr-result c = search needs
@@ -18,18 +25,18 @@ shr-result c = search needs
 returns : tie.Need-returns
 unfolding moves
 returns c =
-    let a = c .before .before .args in
-    let L = a .local-depth in
-    let lives : live L (index (a .block-key) L) (a .key) ≡ true = sym (c .before .is-live .ensures) ∙ c .if1 .taken in
-    λ s j e. rw (e, lives, bit-shift (a .key) L)
+    let a = c .before .before .before .before .before .args in
+    let L = a .block .«local_depth» in
+    let lives : live L (shared (a .block)) (a .key) ≡ true = sym (c .before .before .before .is-live .ensures) ∙ c .before .before .if1 .taken in
+    λ s j e. rw (e, lives, bit-shift (a .key) L, c .before .before .before .before .open-key .ensures .1)
 
 returns-2 : tie.Need-returns-2
 unfolding moves
 returns-2 c =
-    let a = c .before .before .args in
-    let L = a .local-depth in
-    let stale : live L (index (a .block-key) L) (a .key) ≡ false = sym (c .before .is-live .ensures) ∙ c .if1 .left in
+    let a = c .before .before .before .args in
+    let L = a .block .«local_depth» in
+    let stale : live L (shared (a .block)) (a .key) ≡ false = sym (c .before .is-live .ensures) ∙ c .if1 .left in
     λ s j e. rw (e, stale) (c .if1 .left)
 
 pub moves-spec : {M : Type 1} → statement M
-moves-spec = tie.close (tie.spec is-live-requires shr-result returns returns-2)
+moves-spec = tie.close (tie.spec open-key-requires is-live-requires cast-result shr-result returns returns-2)

@@ -1,0 +1,31 @@
+-- What is told of a key's place.
+-- Assumes nothing.
+use Prim.Native.Nat.{ℕ}
+use mathlib.Core.Path.{_≡_}
+use mathlib.Core.Bool.{true}
+use mathlib.Core.List.{List}
+use mathlib.Core.Option.{Option, none, some}
+use Rattle.replies.specs.declared.Refusal.{Refusal}
+use Rattle.rules.specs.Layout.{depth, segments, segmentOf, localDepth}
+use Rattle.rules.specs.Keys.{directoryBits}
+use Rattle.rules.specs.Scan.{inRange}
+use Rattle.rules.specs.Get.{keyEntry, keySegment}
+use Rattle.layout.specs.declared.place.Place.{Place}
+use Rattle.layout.specs.declared.place.Placed.{Placed}
+use Rattle.layout.specs.declared.place.Placed.the-variants.{At, Refused}
+use Rattle.layout.specs.Headers.{Describes}
+
+-- The place p is the key's in the array a: its entry is in range, and names this segment with this local depth. Whether the rest of
+-- the directory is consistent does not matter.
+pub record KeyPlace (p : Place) (a : List ℕ) (key : ℕ) : Type 0 where
+  pub header-read : Describes (p .header) a
+  pub bits-are : directoryBits key ≡ p .bits
+  pub range : inRange (depth a) (segments a) (keyEntry a key) ≡ true
+  pub segment-is : segmentOf (keyEntry a key) ≡ p .segment
+  pub depth-is : localDepth (keyEntry a key) ≡ p .«local_depth»
+  pub base-is : keySegment a key ≡ p .base
+
+-- The tests t have passed, and this is the key's place; or they give this refusal.
+abbrev pub PlacedBy : Placed → List ℕ → (key : ℕ) → Option Refusal → Type 0
+PlacedBy (At p) a key t = (t ≡ none) × KeyPlace p a key
+PlacedBy (Refused r) a key t = t ≡ some r
