@@ -1,6 +1,6 @@
 -- Where segments stand: they fit in an array with a valid word 0; and a key's place.
 -- Assumes nothing.
-use mathlib.Core.Path.{_≡_, sym, _∙_}
+use mathlib.Core.Path.{_≡_, refl, sym, _∙_}
 use mathlib.Core.Bool.{true, false}
 use mathlib.Core.List.{List}
 use mathlib.Core.Option.{none, some}
@@ -20,6 +20,8 @@ use Rattle.layout.specs.declared.header.Header.{Header}
 use Rattle.layout.specs.declared.entry.Entry.{Entry}
 use Rattle.layout.specs.declared.entry.Entry.the-variants.{At, Broken}
 use Rattle.layout.specs.declared.place.Place.{Place}
+use Rattle.layout.specs.declared.key.Block.{Block}
+use Rattle.layout.specs.Blocks.{shared}
 use Rattle.layout.specs.Headers.{Describes}
 use Rattle.layout.specs.Entries.{entrySaid, entryOf}
 use Rattle.layout.specs.Places.{KeyPlace}
@@ -50,9 +52,10 @@ pub record PlaceBounds (p : Place) (a : List ℕ) : Type 0 where
   pub base-at : p .base ≡ segmentAddress (p .header .«max_depth») (p .segment)
   pub whole : p .base + 128 ≤ length a
 
-pub place-bounds : {p : Place} {a : List ℕ} {key : ℕ} → KeyPlace p a key → PlaceBounds p a
+pub place-bounds : {p : Place} {a : List ℕ} → KeyPlace p a → PlaceBounds p a
 unfolding keySegment
-place-bounds {p} {a} {key} k =
+place-bounds {p} {a} k =
+    let key = p .key in
     let d = k .header-read in
     let b = bounds d in
     let low : localDepth (keyEntry a key) ≤ depth a = range-depth (depth a) (segments a) (keyEntry a key) (k .range) in
@@ -93,11 +96,12 @@ module _ {h : Header} {a : List ℕ} (d : Describes h a) (key i bits : ℕ) (ope
         omega arith
 
     pub placed-at : (s L : ℕ) → r ≡ At s L → (base : ℕ) → base ≡ segmentAddress (h .«max_depth») s
-        → (entryTests a key ≡ none) × KeyPlace (record { header = h; bits = bits; segment = s; «local_depth» = L; base = base }) a key
+        → (entryTests a key ≡ none) × (key ≡ key) × KeyPlace (record { header = h; key = key; bits = bits; segment = s; «local_depth» = L; base = base }) a
     unfolding entryTests unless keySegment
     placed-at s L q base b =
         let o = entry-opened s L q in (
           rw (o .range),
+          refl,
           record {
             header-read = d;
             bits-are = sym opened;
@@ -111,3 +115,16 @@ module _ {h : Header} {a : List ℕ} (d : Describes h a) (key i bits : ℕ) (ope
     pub placed-broken : r ≡ Broken → entryTests a key ≡ some BrokenRefusal
     unfolding entryTests unless
     placed-broken q = rw (entry-broken (depth a) (segments a) (keyEntry a key) r (rw key-entry at said) q)
+
+-- ---- What it says of its key's block
+
+-- The block of the key, as the code's liveness takes it.
+abbrev pub blockOf : Place → Block
+blockOf p = record { «local_depth» = p .«local_depth»; bits = p .bits }
+
+-- The bits of the key at any depth, and those that the keys of its block share.
+pub place-index : {p : Place} {a : List ℕ} → KeyPlace p a → (g : ℕ) → firstBits (p .bits) g ≡ index (p .key) g
+place-index {p} k g = rw (← k .bits-are) (sym (index-first (p .key) g))
+
+pub place-shared : {p : Place} {a : List ℕ} → KeyPlace p a → shared (blockOf p) ≡ index (p .key) (p .«local_depth»)
+place-shared {p} k = place-index k (p .«local_depth»)

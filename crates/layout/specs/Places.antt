@@ -15,17 +15,17 @@ use Rattle.layout.specs.declared.place.Placed.{Placed}
 use Rattle.layout.specs.declared.place.Placed.the-variants.{At, Refused}
 use Rattle.layout.specs.Headers.{Describes}
 
--- The place p is the key's in the array a: its entry is in range, and names this segment with this local depth. Whether the rest of
--- the directory is consistent does not matter.
-pub record KeyPlace (p : Place) (a : List ℕ) (key : ℕ) : Type 0 where
+-- The place p is its key's in the array a: the key's entry is in range, and names this segment with this local depth. Whether
+-- the rest of the directory is consistent does not matter.
+pub record KeyPlace (p : Place) (a : List ℕ) : Type 0 where
   pub header-read : Describes (p .header) a
-  pub bits-are : directoryBits key ≡ p .bits
-  pub range : inRange (depth a) (segments a) (keyEntry a key) ≡ true
-  pub segment-is : segmentOf (keyEntry a key) ≡ p .segment
-  pub depth-is : localDepth (keyEntry a key) ≡ p .«local_depth»
-  pub base-is : keySegment a key ≡ p .base
+  pub bits-are : directoryBits (p .key) ≡ p .bits
+  pub range : inRange (depth a) (segments a) (keyEntry a (p .key)) ≡ true
+  pub segment-is : segmentOf (keyEntry a (p .key)) ≡ p .segment
+  pub depth-is : localDepth (keyEntry a (p .key)) ≡ p .«local_depth»
+  pub base-is : keySegment a (p .key) ≡ p .base
 
 -- The tests t have passed, and this is the key's place; or they give this refusal.
 abbrev pub PlacedBy : Placed → List ℕ → (key : ℕ) → Option Refusal → Type 0
-PlacedBy (At p) a key t = (t ≡ none) × KeyPlace p a key
+PlacedBy (At p) a key t = (t ≡ none) × (p .key ≡ key) × KeyPlace p a
 PlacedBy (Refused r) a key t = t ≡ some r

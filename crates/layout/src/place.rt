@@ -10,10 +10,11 @@ ghost use Rattle.rules.specs.Get.{entryTests};
 ghost use Rattle.layout.specs.Headers.{Describes};
 ghost use Rattle.layout.specs.Places.{PlacedBy};
 
-// What word 0 says, the key's directory bits, the segment that its entry names with its local depth,
-// and where that segment stands.
+// What word 0 says, the key and its directory bits, the segment that its entry names with its local
+// depth, and where that segment stands.
 pub struct Place {
     pub header: Header,
+    pub key: u64,
     pub bits: u64,
     pub segment: usize,
     pub local_depth: u32,
@@ -44,6 +45,7 @@ pub fn place_of(words: &[u64], header: Header, key: u64) -> Placed
     let base = segment_base(header.max_depth, segment);
     Placed::At(Place {
         header,
+        key,
         bits,
         segment,
         local_depth,

@@ -3,3 +3,4 @@ pub mod Words
 pub mod Search
 pub mod Copies
 pub mod Records
+pub mod Parts

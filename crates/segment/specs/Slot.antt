@@ -1,14 +1,19 @@
--- A slot of a segment.
+-- A segment as a part of the array, and a slot of it.
 -- Assumes nothing.
 use Prim.Native.Nat.{ℕ}
 use mathlib.Core.Path.{_≡_}
 use mathlib.Core.List.{List}
+use lib.ListN.{take, drop}
 use Rattle.stores.specs.Store.{Store}
 use Rattle.rules.specs.Layout.{keyAt, valueAt}
 use Rattle.rules.specs.Split.{copySlot}
 use Rattle.layout.specs.declared.key.Block.{Block}
 use Rattle.layout.specs.Blocks.{shared}
 use Rattle.segment.specs.declared.Held.{Held}
+
+-- The words of the segment at `base` of the array.
+abbrev pub segmentIn : List ℕ → (base : ℕ) → List ℕ
+segmentIn a base = take 128 (drop base a)
 
 -- Slot j of a segment holds this.
 pub record SlotHolds (segment : List ℕ) (j : ℕ) (h : Held) : Type 0 where

@@ -6,8 +6,9 @@ use mathlib.Core.List.{List, [], _∷_, _++_}
 use Prim.Native.Nat.{ℕ, zero, suc, _+_, _*_, _-_, _≤_, _<_}
 use native.Mathlib.Omega.{arith}
 use lib.Dec.{eqb}
-use lib.ListN.{length, take, drop, take-append-drop}
-use lib.Seq.{length-take-le}
+use native.Mathlib.Numerals.{add-one}
+use lib.ListN.{length, take, drop, set, getD, length-drop, take-append-drop}
+use lib.Seq.{length-take-le, take-suc-set, take-suc, getD-drop, take-all}
 use Rattle.stores.specs.Lists.{pick, each}
 use Rattle.stores.specs.Store.{Store, store, word, shifted, Every}
 use Rattle.stores.specs.Executed.{Executed}
@@ -16,7 +17,8 @@ use Rattle.stores.proofs.Parts.{exec-part, shifted-append, length-shifted}
 use Rattle.rules.specs.Layout.{keyAddress, valueAddress, keyAt, valueAt}
 use Rattle.rules.specs.Keys.{bit, live}
 use Rattle.rules.specs.Split.{moves, copySlot, copying}
-use Rattle.index.proofs.Parts.{segmentIn, span, part-length, part-key, part-value}
+use Rattle.segment.specs.Slot.{segmentIn}
+use Rattle.segment.proofs.Parts.{span, part-length, part-key, part-value}
 
 -- Stores that stay within a segment lent as a part are, in the whole array, those stores shifted.
 pub executed-part : (ss : List Store) (base allowed due : ℕ) (a : List ℕ) (due′ : ℕ) (b : List ℕ)
@@ -104,3 +106,17 @@ copied a from base L bits allowed due due′ b f h p =
     rw (← copying-shifted a from base L bits f, span base)
     (executed-part (copying (segmentIn a from) 0 0 L bits) base allowed due a due′ b h (copying-inside (segmentIn a from) 0 L bits)
     (rw (span base) at p))
+
+-- ---- A segment copied word by word
+
+module _ (a : List ℕ) (base : ℕ) (fits : base + 128 ≤ length a) where
+  pub copy-more : (b : List ℕ) (i : ℕ) → i < 128 → length b ≡ 128 → take i b ≡ take i (drop base a)
+      → take (i + 1) (set b i (getD a (base + i) 0)) ≡ take (i + 1) (drop base a)
+  copy-more b i k n e =
+      let here : i < length (drop base a) = rw length-drop (omega arith) in
+      rw (add-one i)
+      (take-suc-set b i (getD a (base + i) 0) (omega arith)
+      ∙ rw (e, ← getD-drop base a i 0) (sym (take-suc (drop base a) i 0 here)))
+
+  pub copy-all : (b : List ℕ) (i : ℕ) → i ≡ 128 → length b ≡ 128 → take i b ≡ take i (drop base a) → b ≡ segmentIn a base
+  copy-all b i q n e = sym (take-all 128 b (omega arith)) ∙ rw q at e

@@ -13,15 +13,13 @@ use Rattle.stores.specs.Store.{word}
 use Rattle.stores.specs.Lists.{each}
 use Rattle.stores.proofs.Lists.{each-same, first-same}
 use Rattle.rules.specs.Layout.{keyAt, valueAt}
+use Rattle.segment.specs.Slot.{segmentIn}
 use Rattle.rules.specs.Keys.{live, window}
 use Rattle.rules.specs.Slots.{hit, usable, firstUsable, choose}
 use Rattle.rules.specs.Listing.{liveRecord}
 use Rattle.rules.proofs.Keys.{window-lt}
 
--- The words of the segment at `base`, and as the code says it, by its start and its end.
-abbrev pub segmentIn : List ℕ → (base : ℕ) → List ℕ
-segmentIn a base = take 128 (drop base a)
-
+-- A part of 128 words by its start and its end.
 pub span : (base : ℕ) → base + 128 - base ≡ 128
 span base = omega arith
 

@@ -1,13 +1,13 @@
--- `index::place::read_segment` meets its contract. The invariant: the words so far are the segment's.
+-- `structure::split::read_segment` meets its contract. The invariant: the words so far are the segment's.
 -- Assumes nothing.
 use borrow.Author.Needs.{needs}
 use native.Mathlib.Omega.{arith}
 use mathlib.Core.Path.{_≡_}
 use Prim.Native.Nat.{_-_, _≤_}
 use lib.ListN.{length, take, drop}
-use Rattle.index.proofs.Places.{copy-more, copy-all}
-use Rattle.index.proofs.place.read_segment.Statement.{statement}
-use Rattle.index.proofs.place.read_segment.Tie as tie
+use Rattle.structure.proofs.Copies.{copy-more, copy-all}
+use Rattle.structure.proofs.split.read_segment.Statement.{statement}
+use Rattle.structure.proofs.split.read_segment.Tie as tie
 
 abbrev Inv-loop : tie.InvT-loop
 Inv-loop words base segment₀ i₀ segment i =

@@ -1,0 +1,3 @@
+-- The laws that the proofs of the structure's functions share.
+pub mod Copies
+pub mod Splits

@@ -1,0 +1,2 @@
+// What moves records between segments: the split of a key's segment.
+pub mod split;
