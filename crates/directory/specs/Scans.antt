@@ -1,15 +1,19 @@
 -- What the scan answers, and where it stands behind each entry.
 -- Assumes nothing.
 use Prim.Native.Nat.{ℕ, _+_}
-use mathlib.Core.Bool.{Bool, false}
+use mathlib.Core.Path.{_≡_}
+use mathlib.Core.Bool.{Bool, true, false}
+use mathlib.Core.List.{List}
 use mathlib.Core.Option.{Option, none, some}
 use lib.Dec.{ltb, eqb}
 use Rattle.stores.specs.Lists.{pick}
 use Rattle.replies.specs.declared.Refusal.{Refusal}
 use Rattle.replies.specs.declared.Refusal.the-variants.{Broken as BrokenRefusal, Unmended as UnmendedRefusal}
-use Rattle.rules.specs.Layout.{localDepth}
+use Rattle.rules.specs.Layout.{depth, segments, localDepth}
 use Rattle.rules.specs.Keys.{width}
-use Rattle.rules.specs.Scan.{validLeader}
+use Rattle.rules.specs.Scan.{validLeader, leadersValid}
+use Rattle.layout.specs.declared.header.Header.{Header}
+use Rattle.layout.specs.Headers.{Describes}
 use Rattle.directory.specs.declared.scan.Verdict.{Verdict}
 use Rattle.directory.specs.declared.scan.Verdict.the-variants.{Broken, Unmended, Consistent}
 use Rattle.directory.specs.declared.scan.LedBlock.{LedBlock}
@@ -32,3 +36,7 @@ unfoldable pub scanAt : (g S i e : ℕ) → LedBlock → Bool → ScanStep
 scanAt g S i e b agree =
     pick (ltb i (b .end)) (In b (pick (eqb e (b .leading)) agree false))
     (pick (validLeader g S i e) (In (blockLedBy g i e) agree) (Stop Broken))
+
+-- The header is what a valid word 0 says, and every leader is valid.
+abbrev pub LeadersRead : Header → List ℕ → Type 0
+LeadersRead h a = Describes h a × (leadersValid a (depth a) (segments a) ≡ true)

@@ -5,18 +5,15 @@ use layout::entry::local_depth_of;
 use layout::header::Header;
 use layout::header::pow2;
 ghost use mathlib.Core.Path.{_≡_};
-ghost use mathlib.Core.Bool.{true};
 ghost use Prim.Native.Nat.{_≤_, _<_};
 ghost use lib.Dec.{ltb};
 ghost use lib.ListN.{length};
 ghost use Rattle.stores.specs.Lists.{pick};
 ghost use Rattle.stores.specs.Executed.{Executed, dueLimit};
-ghost use Rattle.rules.specs.Layout.{depth, segments, localDepth};
-ghost use Rattle.rules.specs.Scan.{leadersValid};
+ghost use Rattle.rules.specs.Layout.{localDepth};
 ghost use Rattle.rules.specs.Mend.{mending};
-ghost use Rattle.layout.specs.Headers.{Describes};
 ghost use Rattle.directory.specs.Updates.{correction};
-ghost use Rattle.directory.specs.Scans.{blockLedBy};
+ghost use Rattle.directory.specs.Scans.{blockLedBy, LeadersRead};
 
 // The block of index `i`, whose entry is `entry`: the block of the index before, until it ends.
 fn next_block(block: LedBlock, entry: u64, i: usize, depth: u32) -> LedBlock
@@ -48,7 +45,7 @@ fn mend_entry(words: &mut [u64], at: usize, leading: u64, allowed: u32, due: u32
 // One pass over the entries: each that differs from its block's leading entry gets that entry. A
 // leading entry is never stored, so the one that was read stays right under every allowance.
 pub fn mend_entries(words: &mut [u64], header: Header, allowed: u32, due: u32) -> u32
-    requires { ⌜ Describes header (now words) × (leadersValid (now words) (depth (now words)) (segments (now words)) ≡ true) × (due ≤ dueLimit) ⌝ }
+    requires { ⌜ LeadersRead header (now words) × (due ≤ dueLimit) ⌝ }
     ensures { λ r. ⌜ Executed (mending (now (words .entry))) allowed due (now (words .entry)) r (now (words .exit)) ⌝ }
 {
     let count = pow2(header.depth);

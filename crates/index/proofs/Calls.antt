@@ -4,24 +4,25 @@ use mathlib.Core.Path.{_≡_, refl}
 use mathlib.Core.Bool.{true, false}
 use mathlib.Core.List.{List, [], _∷_}
 use mathlib.Core.Option.{none, some}
-use Prim.Native.Nat.{ℕ, _≤_, _<_, min}
+use Prim.Native.Nat.{ℕ, _+_, _*_, _≤_, _<_, min}
+use native.Mathlib.Omega.{arith}
 use borrow.Author.Tests.{le-leb, lt-leb, eq-eqb, ne-eqb}
 use lib.Dec.{leb}
 use lib.ListN.{length}
 use Rattle.stores.specs.Lists.{pick, each}
-use Rattle.stores.specs.Store.{store}
+use Rattle.stores.specs.Store.{store, word}
 use Rattle.stores.specs.Executed.{Executed}
 use Rattle.stores.proofs.Stores.{executed-append}
 use Rattle.replies.specs.declared.Refusal.{Refusal}
 use Rattle.replies.specs.declared.Refusal.the-variants.{NoStore, Broken, BadShape, TooShort}
 use Rattle.replies.specs.declared.Answer.{Answer}
 use Rattle.rules.specs.declared.Call.the-variants.{Format, Get, Remove, Mend}
-use Rattle.rules.specs.Layout.{validShape, validHeader, wordsFor, header, depth, segments, segmentAddress, keyAddress, valueAt}
+use Rattle.rules.specs.Layout.{validShape, validHeader, wordsFor, header, depth, segments, segmentAddress, keyAddress, valueAddress}
 use Rattle.rules.specs.Scan.{inRange, leadersValid}
 use Rattle.rules.specs.Slots.{hit}
 use Rattle.replies.specs.Replies.{Said, done, absent, refused, refuse, saidBy, unless, tested, replied}
-use Rattle.rules.specs.Format.{formatTests, formatStores, format}
-use Rattle.rules.specs.Get.{keyEntry, keySegment, keyTests, entryTests, getTests, valueAtHit, get}
+use Rattle.rules.specs.Format.{clearing, formatTests, formatStores, format}
+use Rattle.rules.specs.Get.{getTests, valueAtHit, get}
 use Rattle.rules.specs.Put.{directoryTests, putTests}
 use Rattle.rules.specs.Remove.{removeTests, clearedAt, remove}
 use Rattle.rules.specs.Mend.{mendTests, mending, mend}
@@ -31,6 +32,8 @@ use Rattle.directory.specs.declared.scan.Verdict.the-variants.{Broken as Broken
 use Rattle.directory.specs.Scans.{verdictOf}
 use Rattle.directory.proofs.Answers.{verdict-unmended, verdict-consistent}
 use Rattle.index.specs.Answered.{Answered}
+use Rattle.layout.specs.declared.place.Place.{Place}
+use Rattle.index.proofs.Places.{Stands}
 use Rattle.index.proofs.Answers.{answered-stores, answered-only, answered-refused}
 
 -- What an answer behind stores says, where `due` were due: the reply is the plan's, or 7.
@@ -48,14 +51,14 @@ pub format-stores : (D S allowed : ℕ) (a : List ℕ) (n₁ : ℕ) (a₁ : List
     → base ≡ segmentAddress D 0 → w ≡ header 0 D S
     → Executed (store 0 0 ∷ []) allowed 0 a n₁ a₁
     → Executed (store 1 0 ∷ []) allowed n₁ a₁ n₂ a₂
-    → Executed (each (λ j. store (keyAddress base j) 0 ∷ []) 64) allowed n₂ a₂ n₃ a₃
+    → Executed (clearing base) allowed n₂ a₂ n₃ a₃
     → Executed (store 0 w ∷ []) allowed n₃ a₃ n₄ a₄
     → Executed (formatStores D S) allowed 0 a n₄ a₄
 unfolding formatStores
 format-stores D S allowed a n₁ a₁ n₂ a₂ base n₃ a₃ w n₄ a₄ b v e₁ e₂ e₃ e₄ =
     executed-append (store 0 0 ∷ []) _ allowed 0 a n₁ a₁ n₄ a₄ e₁
     (executed-append (store 1 0 ∷ []) _ allowed n₁ a₁ n₂ a₂ n₄ a₄ e₂
-    (executed-append (each (λ j. store (keyAddress (segmentAddress D 0) j) 0 ∷ []) 64) (store 0 (header 0 D S) ∷ []) allowed n₂ a₂ n₃ a₃ n₄ a₄
+    (executed-append (clearing (segmentAddress D 0)) (store 0 (header 0 D S) ∷ []) allowed n₂ a₂ n₃ a₃ n₄ a₄
     (rw b at e₃) (rw v at e₄)))
 
 module _ (a : List ℕ) (D S allowance : ℕ) (r : Answer) where
@@ -83,28 +86,20 @@ module _ (a : List ℕ) (key : ℕ) (r : Answer) where
   unfolding effect step
   get-answer k = record { reply = k .0; stores = k .1; words = refl }
 
-  pub get-no-store : validHeader a ≡ false → Without r (refused 1) → Answered (step a 0 (Get key)) r a
-  unfolding get entryTests getTests keyTests unless replied
-  get-no-store e k = get-answer (rw e k)
+  pub get-refused : (q : Refusal) → getTests a key ≡ some q → Without r (refuse q) → Answered (step a 0 (Get key)) r a
+  unfolding get replied
+  get-refused q e k = get-answer (rw e k)
 
-  module _ (v : validHeader a ≡ true) where
-    pub get-no-key : key ≡ 0 → Without r (refused 2) → Answered (step a 0 (Get key)) r a
-    unfolding get entryTests getTests keyTests unless replied
-    get-no-key z k = get-answer (rw (v, eq-eqb key 0 z) k)
+  module _ (p : Place) (x : Stands p a key (getTests a key)) where
+    pub get-absent : hit a (p .base) (p .key) ≡ none → Without r absent → Answered (step a 0 (Get key)) r a
+    unfolding get replied valueAtHit
+    get-absent h k = get-answer (rw (x .0, ← x .1, x .2 .base-is, h) k)
 
-    module _ (z : key ≡ 0 → ⊥) where
-      pub get-broken : inRange (depth a) (segments a) (keyEntry a key) ≡ false → Without r (refused 3) → Answered (step a 0 (Get key)) r a
-      unfolding get entryTests getTests keyTests unless replied
-      get-broken e k = get-answer (rw (v, ne-eqb key 0 z, e) k)
-
-      module _ (e : inRange (depth a) (segments a) (keyEntry a key) ≡ true) (base : ℕ) (b : keySegment a key ≡ base) where
-        pub get-absent : hit a base key ≡ none → Without r absent → Answered (step a 0 (Get key)) r a
-        unfolding get entryTests getTests keyTests unless replied valueAtHit
-        get-absent h k = get-answer (rw (v, ne-eqb key 0 z, e, b, h) k)
-
-        pub get-found : (j : ℕ) → hit a base key ≡ some j → Without r (done (valueAt a base j ∷ [])) → Answered (step a 0 (Get key)) r a
-        unfolding get entryTests getTests keyTests unless replied valueAtHit
-        get-found j h k = get-answer (rw (v, ne-eqb key 0 z, e, b, h) k)
+    pub get-found : (j : ℕ) → hit a (p .base) (p .key) ≡ some j → Without r (done (word a (p .base + 2 * j + 1) ∷ [])) → Answered (step a 0 (Get key)) r a
+    unfolding get replied valueAtHit
+    get-found j h k =
+        let at : p .base + 2 * j + 1 ≡ valueAddress (p .base) j = omega arith in
+        get-answer (rw (x .0, ← x .1, x .2 .base-is, h) (rw at at k))
 
 -- ---- Remove, whose tests are those of put
 
@@ -113,17 +108,18 @@ module _ (a : List ℕ) (key allowance : ℕ) (r : Answer) where
   unfolding effect step remove removeTests putTests
   remove-refused q e k = answered-refused allowance (removeTests a key) q _ a r e (k .0) (k .1)
 
-  module _ (e : putTests a key ≡ none) (base : ℕ) (b : keySegment a key ≡ base) where
-    pub remove-absent : hit a base key ≡ none → Without r absent → Answered (step a 0 (Remove key allowance)) r a
+  module _ (p : Place) (x : Stands p a key (putTests a key)) where
+    pub remove-absent : hit a (p .base) (p .key) ≡ none → Without r absent → Answered (step a 0 (Remove key allowance)) r a
     unfolding effect step remove removeTests putTests tested clearedAt
-    remove-absent h k = rw (e, b, h) (answered-only allowance absent a r (k .0) (k .1))
+    remove-absent h k = rw (x .0, ← x .1, x .2 .base-is, h) (answered-only allowance absent a r (k .0) (k .1))
 
-    pub remove-done : (j : ℕ) → hit a base key ≡ some j → (due : ℕ) (after : List ℕ)
-        → Executed (store (keyAddress base j) 0 ∷ []) allowance 0 a due after → Told r (done []) allowance due
+    pub remove-done : (j : ℕ) → hit a (p .base) (p .key) ≡ some j → (due : ℕ) (after : List ℕ)
+        → Executed (store (p .base + 2 * j) 0 ∷ []) allowance 0 a due after → Told r (done []) allowance due
         → Answered (step a 0 (Remove key allowance)) r after
     unfolding effect step remove removeTests putTests tested clearedAt
-    remove-done j h due after x k =
-        rw (e, b, h) (answered-stores allowance (record { due = store (keyAddress base j) 0 ∷ []; reply = done [] }) a r due after x k)
+    remove-done j h due after e k =
+        rw (x .0, ← x .1, x .2 .base-is, h)
+        (answered-stores allowance (record { due = store (keyAddress (p .base) j) 0 ∷ []; reply = done [] }) a r due after e k)
 
 -- ---- Mend
 

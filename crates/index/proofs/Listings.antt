@@ -35,11 +35,13 @@ use Rattle.layout.specs.declared.header.Header.{Header}
 use Rattle.layout.specs.Headers.{Describes}
 use Rattle.layout.proofs.Shapes.{bounds}
 use Rattle.layout.proofs.Entries.{entry-word}
-use Rattle.index.specs.declared.listing.Block.{Block}
+use Rattle.index.specs.declared.listing.BlockPlace.{BlockPlace}
+use Rattle.layout.specs.Blocks.{shared}
 use Rattle.index.specs.Blocks.{BlockRead}
 use Rattle.index.proofs.Calls.{Without}
-use Rattle.index.proofs.Places.{segment-fits}
-use Rattle.index.proofs.Parts.{segmentIn, part-records}
+use Rattle.layout.proofs.Places.{segment-fits}
+use Rattle.segment.specs.Slot.{segmentIn}
+use Rattle.segment.proofs.Parts.{part-records}
 
 -- The records that index i adds: those of its block, where it leads one.
 abbrev pub recordsAt : List ℕ → (i : ℕ) → List Record
@@ -123,25 +125,25 @@ module _ {h : Header} {a : List ℕ} (d : Describes h a) (v : leadersValid a (de
       rw (entry-word count i d e) (record { depth-low = omega arith; segment-small = omega arith })
 
 -- The block that the code read at a leader, in the listing: where it goes on, and what it adds.
-pub record Turn (a : List ℕ) (count i : ℕ) (b : Block) : Type 0 where
+pub record Turn (a : List ℕ) (count i : ℕ) (b : BlockPlace) : Type 0 where
   pub whole : b .base + 128 ≤ length a
-  pub depth-small : b .«local_depth» ≤ 12
+  pub depth-small : b .block .«local_depth» ≤ 12
   pub onwards : i < b .next
   pub inside : b .next ≤ count
   pub leads : leader a (depth a) (b .next) ≡ b .next
   pub adds : recordsTo a (b .next)
-      ≡ recordsTo a i ++ liveRecords (segmentIn a (b .base)) (b .«local_depth») (index (b .key) (b .«local_depth»))
-  pub room : length (recordsTo a i) + length (liveRecords (segmentIn a (b .base)) (b .«local_depth») (index (b .key) (b .«local_depth»)))
+      ≡ recordsTo a i ++ liveRecords (segmentIn a (b .base)) (b .block .«local_depth») (shared (b .block))
+  pub room : length (recordsTo a i) + length (liveRecords (segmentIn a (b .base)) (b .block .«local_depth») (shared (b .block)))
       ≤ length (records a)
 
 -- The live records of the block's segment are the block's.
-block-live : (a : List ℕ) (i : ℕ) (b : Block) → BlockRead a i b
-    → each (liveRecord a (b .base) (b .«local_depth») (index (b .key) (b .«local_depth»))) 64 ≡ blockRecords a i (entryAt a (depth a) i)
+block-live : (a : List ℕ) (i : ℕ) (b : BlockPlace) → BlockRead a i b
+    → each (liveRecord a (b .base) (b .block .«local_depth») (shared (b .block))) 64 ≡ blockRecords a i (entryAt a (depth a) i)
 unfolding blockRecords
 block-live a i b r = rw (r .bits-are, r .base-is, r .depth-is)
 
 pub turn : {h : Header} {a : List ℕ} → Describes h a → leadersValid a (depth a) (segments a) ≡ true → (count : ℕ) → count ≡ 2 ^ h .depth
-    → (i : ℕ) → i < count → leader a (depth a) i ≡ i → (b : Block) → BlockRead a i b → Turn a count i b
+    → (i : ℕ) → i < count → leader a (depth a) i ≡ i → (b : BlockPlace) → BlockRead a i b → Turn a count i b
 turn {h} {a} d v count c i k own b r =
     let k′ : i < 2 ^ depth a = rw (d .depth-read) (omega arith) in
     let B = bounds d in
@@ -151,10 +153,10 @@ turn {h} {a} d v count c i k own b r =
     let whole : b .base + 128 ≤ length a =
     rw (r .base-is, d .max-depth-read) (segment-fits d (segmentOf (entryAt a (depth a) i)) (rw (d .segments-read) at below)) in
     let last : b .next ≤ 2 ^ depth a = rw (r .next-is) (next-inside a v i k′ own) in
-    let live : liveRecords (segmentIn a (b .base)) (b .«local_depth») (index (b .key) (b .«local_depth»)) ≡ blockRecords a i (entryAt a (depth a) i) =
-    part-records a (b .base) whole (b .«local_depth») (index (b .key) (b .«local_depth»)) ∙ block-live a i b r in
+    let live : liveRecords (segmentIn a (b .base)) (b .block .«local_depth») (shared (b .block)) ≡ blockRecords a i (entryAt a (depth a) i) =
+    part-records a (b .base) whole (b .block .«local_depth») (shared (b .block)) ∙ block-live a i b r in
     let adds : recordsTo a (b .next)
-    ≡ recordsTo a i ++ liveRecords (segmentIn a (b .base)) (b .«local_depth») (index (b .key) (b .«local_depth»)) =
+    ≡ recordsTo a i ++ liveRecords (segmentIn a (b .base)) (b .block .«local_depth») (shared (b .block)) =
     rw (r .next-is, live) (records-block a v i k′ own) in
     record {
       whole = whole;
@@ -167,14 +169,14 @@ turn {h} {a} d v count c i k own b r =
     }
 
 -- The records of the block behind those before it, counted and written.
-module _ {a : List ℕ} {count i : ℕ} {b : Block} (t : Turn a count i b) where
+module _ {a : List ℕ} {count i : ℕ} {b : BlockPlace} (t : Turn a count i b) where
   pub count-turn : (total n : ℕ) → total ≡ length (recordsTo a i)
-      → n ≡ length (liveRecords (segmentIn a (b .base)) (b .«local_depth») (index (b .key) (b .«local_depth»)))
+      → n ≡ length (liveRecords (segmentIn a (b .base)) (b .block .«local_depth») (shared (b .block)))
       → total + n ≡ length (recordsTo a (b .next))
   count-turn total n e f = rw (t .adds, length-append) (omega arith)
 
   pub write-turn : (l : List ℕ) (m : ℕ) (l₁ : List ℕ) (n : ℕ) (l₂ : List ℕ) → Written (wordsOf (recordsTo a i)) 0 l m l₁
-      → Written (wordsOf (liveRecords (segmentIn a (b .base)) (b .«local_depth») (index (b .key) (b .«local_depth»)))) m l₁ n l₂
+      → Written (wordsOf (liveRecords (segmentIn a (b .base)) (b .block .«local_depth») (shared (b .block)))) m l₁ n l₂
       → Written (wordsOf (recordsTo a (b .next))) 0 l n l₂
   write-turn l m l₁ n l₂ p q =
       rw (t .adds, words-append) (written-append _ _ 0 l m l₁ n l₂ (omega arith) p q)

@@ -1,103 +1,107 @@
--- Where segments stand: they fit in an array with a valid word 0, and what lies in one.
+-- The tests in front of the calls with a key, from what was read of the array.
 -- Assumes nothing.
-use mathlib.Core.Path.{_≡_, sym, _∙_}
+use mathlib.Core.Path.{_≡_, refl, sym, _∙_}
 use mathlib.Core.Bool.{true, false}
 use mathlib.Core.List.{List}
-use Prim.Native.Nat.{ℕ, _+_, _^_, _≤_, _<_}
-use native.Mathlib.Numerals.{add-one}
-use native.Mathlib.Omega.{arith}
-use lib.ListN.{length, take, drop, set, getD, length-drop}
-use lib.Seq.{take-suc-set, take-suc, getD-drop, take-all}
-use Rattle.rules.specs.Layout.{depth, maxDepth, segments, validShape, wordsFor, entryAt, segmentOf, localDepth, segmentAddress}
-use Rattle.rules.specs.Keys.{index}
-use Rattle.rules.specs.Scan.{inRange}
-use Rattle.rules.specs.Get.{keyEntry, keySegment}
-use Rattle.rules.proofs.Words.{valid-header}
-use Rattle.rules.proofs.Keys.{index-lt}
-use Rattle.rules.proofs.Scan.{range-depth, range-segment}
-use Rattle.layout.specs.declared.header.Header.{Header}
-use Rattle.layout.specs.declared.entry.Entry.{Entry}
-use Rattle.layout.specs.declared.entry.Entry.the-variants.{At, Broken}
-use Rattle.layout.specs.Headers.{Describes}
-use Rattle.layout.specs.Entries.{entrySaid, entryOf}
-use Rattle.layout.proofs.Shapes.{shape, bounds}
-use Rattle.layout.proofs.Answers.{entry-at, entry-broken}
+use mathlib.Core.Option.{Option, none, some}
+use Prim.Native.Nat.{ℕ, _+_, _≤_, _<_}
+use lib.ListN.{length}
+use borrow.Author.Tests.{eq-eqb, ne-eqb}
+use Rattle.replies.specs.declared.Refusal.{Refusal}
+use Rattle.replies.specs.declared.Refusal.the-variants.{NoStore, NoKey}
+use Rattle.replies.specs.Replies.{unless}
+use Rattle.rules.specs.Layout.{validHeader, depth, segments}
+use Rattle.rules.specs.Get.{keyEntry, keyTests, entryTests, getTests}
+use Rattle.rules.specs.Put.{directoryTests, putTests, keyChoice}
+use Rattle.rules.specs.Slots.{choose, hit}
+use Rattle.rules.proofs.Keys.{index-shift}
+use Rattle.rules.proofs.Scan.{in-range}
+use Rattle.rules.proofs.Put.{passed}
+use Rattle.rules.proofs.Range.{hit-slot}
+use Rattle.segment.specs.declared.probe.Hit.{Hit}
+use Rattle.segment.specs.declared.probe.Hit.the-variants.{At as HitAt, Absent}
+use Rattle.segment.specs.Answers.{hitOf}
+use Rattle.layout.specs.declared.place.Place.{Place}
+use Rattle.layout.specs.declared.place.Placed.{Placed}
+use Rattle.layout.specs.declared.place.Placed.the-variants.{At, Refused}
+use Rattle.layout.specs.Blocks.{shared}
+use Rattle.layout.specs.Places.{KeyPlace, PlacedBy}
+use Rattle.layout.proofs.Places.{place-bounds, blockOf, place-shared}
 
--- Segments below S are whole within the array.
-pub segment-fits : {h : Header} {a : List ℕ} → Describes h a → (s : ℕ) → s < h .segments
-    → segmentAddress (h .«max_depth») s + 128 ≤ length a
-unfolding segmentAddress wordsFor
-segment-fits {h} {a} d s k =
-    let room : wordsFor (maxDepth a) (segments a) ≤ length a = valid-header a (d .valid) .room in
-    let room′ : wordsFor (h .«max_depth») (h .segments) ≤ length a = rw (d .max-depth-read, d .segments-read) at room in
-    omega arith
+module _ (a : List ℕ) (key : ℕ) (later : Option Refusal) where
+  key-tests-no-store : validHeader a ≡ false → keyTests a key later ≡ some NoStore
+  unfolding keyTests unless
+  key-tests-no-store e = rw e
 
--- An array with room for D and S has room for segment 0.
-pub first-segment-fits : (D S n : ℕ) → validShape D S ≡ true → wordsFor D S ≤ n → segmentAddress D 0 + 128 ≤ n
-unfolding segmentAddress wordsFor
-first-segment-fits D S n v h = let s = shape D S v in omega arith
+  key-tests-no-key : validHeader a ≡ true → key ≡ 0 → keyTests a key later ≡ some NoKey
+  unfolding keyTests unless
+  key-tests-no-key e z = rw (e, eq-eqb key 0 z)
 
--- ---- The segment of a key
+  key-tests-later : validHeader a ≡ true → (key ≡ 0 → ⊥) → keyTests a key later ≡ later
+  unfolding keyTests unless
+  key-tests-later e z = rw (e, ne-eqb key 0 z)
 
--- The key's entry is in range, with segment s and local depth L.
-pub record Located (h : Header) (a : List ℕ) (key s L : ℕ) : Type 0 where
-  pub range : inRange (depth a) (segments a) (keyEntry a key) ≡ true
-  pub segment-is : segmentOf (keyEntry a key) ≡ s
-  pub depth-is : localDepth (keyEntry a key) ≡ L
-  pub segment-below : s < h .segments
-  pub segment-small : s ≤ 4096
-  pub depth-low : L ≤ h .depth
+module _ (a : List ℕ) (key : ℕ) where
+  pub read-no-store : validHeader a ≡ false → getTests a key ≡ some NoStore
+  unfolding getTests
+  read-no-store e = key-tests-no-store a key (entryTests a key) e
 
--- The key's segment stands at `base`, whole.
-pub record SegmentAt (a : List ℕ) (key base : ℕ) : Type 0 where
-  pub base-is : keySegment a key ≡ base
-  pub whole : base + 128 ≤ length a
+  pub read-no-key : validHeader a ≡ true → key ≡ 0 → getTests a key ≡ some NoKey
+  unfolding getTests
+  read-no-key e z = key-tests-no-key a key (entryTests a key) e z
 
-module _ {h : Header} {a : List ℕ} (d : Describes h a) (key i : ℕ) (e : i ≡ index key (h .depth)) where
-  pub key-index-lt : i < 2 ^ h .depth
-  key-index-lt = rw e (index-lt key (h .depth))
+  -- With a valid word 0 and a key, the key's entry decides.
+  pub read-entry-decides : validHeader a ≡ true → (key ≡ 0 → ⊥) → getTests a key ≡ entryTests a key
+  unfolding getTests
+  read-entry-decides e z = key-tests-later a key (entryTests a key) e z
 
-  pub key-entry : entryAt a (depth a) i ≡ keyEntry a key
-  unfolding keyEntry
-  key-entry = rw (e, d .depth-read)
+  pub change-no-store : validHeader a ≡ false → putTests a key ≡ some NoStore
+  unfolding putTests
+  change-no-store e = key-tests-no-store a key (directoryTests a none) e
 
-  -- What the reader of the key's entry tells.
-  module _ (r : Entry) (said : entrySaid r ≡ entryOf (depth a) (segments a) (entryAt a (depth a) i)) where
-    pub located : (s L : ℕ) → r ≡ At s L → Located h a key s L
-    located s L q =
-        let o = entry-at (depth a) (segments a) (keyEntry a key) r (rw key-entry at said) s L q in
-        let b = bounds d in
-        let below : segmentOf (keyEntry a key) < segments a = range-segment (depth a) (segments a) (keyEntry a key) (o .range) in
-        let low : localDepth (keyEntry a key) ≤ depth a = range-depth (depth a) (segments a) (keyEntry a key) (o .range) in
-        let below′ : s < h .segments = rw (o .segment-is, d .segments-read) at below in
-        record {
-          range = o .range;
-          segment-is = o .segment-is;
-          depth-is = o .depth-is;
-          segment-below = below′;
-          segment-small = omega arith;
-          depth-low = rw (o .depth-is, d .depth-read) at low;
-        }
+  pub change-no-key : validHeader a ≡ true → key ≡ 0 → putTests a key ≡ some NoKey
+  unfolding putTests
+  change-no-key e z = key-tests-no-key a key (directoryTests a none) e z
 
-    pub out-of-range : r ≡ Broken → inRange (depth a) (segments a) (keyEntry a key) ≡ false
-    out-of-range q = entry-broken (depth a) (segments a) (keyEntry a key) r (rw key-entry at said) q
+  -- With a valid word 0 and a key, the directory decides.
+  pub change-directory-decides : validHeader a ≡ true → (key ≡ 0 → ⊥) → putTests a key ≡ directoryTests a none
+  unfolding putTests
+  change-directory-decides e z = key-tests-later a key (directoryTests a none) e z
 
-pub segment-at : {h : Header} {a : List ℕ} {key s L : ℕ} → Describes h a → Located h a key s L → (base : ℕ)
-    → base ≡ segmentAddress (h .«max_depth») s → SegmentAt a key base
-unfolding keySegment
-segment-at {h} {a} {key} {s} d o base e =
-    record { base-is = rw (o .segment-is, d .max-depth-read) (sym e); whole = rw e (segment-fits d s (o .segment-below)) }
+  -- In a consistent directory the key's entry is in range.
+  pub change-entry : putTests a key ≡ none → putTests a key ≡ entryTests a key
+  unfolding entryTests unless
+  change-entry e =
+      let p = passed a key e in
+      e ∙ rw (in-range (depth a) (segments a) (keyEntry a key) (p .local-low) (p .segment-below))
 
--- ---- A segment copied word by word
+-- ---- What a call learns of its key's place
 
-module _ (a : List ℕ) (base : ℕ) (fits : base + 128 ≤ length a) where
-  pub copy-more : (b : List ℕ) (i : ℕ) → i < 128 → length b ≡ 128 → take i b ≡ take i (drop base a)
-      → take (i + 1) (set b i (getD a (base + i) 0)) ≡ take (i + 1) (drop base a)
-  copy-more b i k n e =
-      let here : i < length (drop base a) = rw length-drop (omega arith) in
-      rw (add-one i)
-      (take-suc-set b i (getD a (base + i) 0) (omega arith)
-      ∙ rw (e, ← getD-drop base a i 0) (sym (take-suc (drop base a) i 0 here)))
+-- The tests t have passed, and p is the key's place.
+abbrev pub Stands : Place → List ℕ → (key : ℕ) → Option Refusal → Type 0
+Stands p a key t = (t ≡ none) × (p .key ≡ key) × KeyPlace p a
 
-  pub copy-all : (b : List ℕ) (i : ℕ) → i ≡ 128 → length b ≡ 128 → take i b ≡ take i (drop base a) → b ≡ take 128 (drop base a)
-  copy-all b i q n e = sym (take-all 128 b (omega arith)) ∙ rw q at e
+module _ (r : Placed) (a : List ℕ) (key : ℕ) (t : Option Refusal) (e : PlacedBy r a key t) where
+  pub stands : (p : Place) → r ≡ At p → Stands p a key t
+  stands p q = rw q at e
+
+  pub refused-by : (f : Refusal) → r ≡ Refused f → t ≡ some f
+  refused-by f q = rw q at e
+
+-- The choice of a slot in the segment at the key's place is that of the key.
+pub place-choice : {p : Place} {a : List ℕ} → KeyPlace p a → choose a (p .base) (p .«local_depth») (shared (blockOf p)) (p .key) ≡ keyChoice a (p .key)
+unfolding keyChoice
+place-choice {p} {a} k =
+    let low : p .«local_depth» ≤ depth a = rw (k .header-read .depth-read) (place-bounds k .local-low) in
+    rw (k .base-is, k .depth-is, index-shift (p .key) (depth a) (p .«local_depth») low, place-shared k)
+
+-- A slot that was found at the key's place is one of the segment's, and the segment lies in the array.
+module _ {p : Place} {a : List ℕ} (k : KeyPlace p a) (r : Hit) (e : hitOf r ≡ hit a (p .base) (p .key)) where
+  pub found-hit : (j : ℕ) → r ≡ HitAt j → hit a (p .base) (p .key) ≡ some j
+  found-hit j q = sym (rw q at e)
+
+  pub absent-hit : r ≡ Absent → hit a (p .base) (p .key) ≡ none
+  absent-hit q = sym (rw q at e)
+
+  pub found-inside : (j : ℕ) → r ≡ HitAt j → (j < 64) × (p .base + 128 ≤ length a)
+  found-inside j q = (hit-slot a (p .base) (p .key) j (found-hit j q), place-bounds k .whole)

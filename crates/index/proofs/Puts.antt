@@ -34,27 +34,20 @@ use Rattle.rules.proofs.Keys.{index-shift}
 use Rattle.rules.proofs.Split.{Splittable, unused-falls}
 use Rattle.rules.proofs.Range.{hit-slot, usable-slot}
 use Rattle.rules.proofs.Put.{put-refused, put-found, put-into, put-too-deep, put-no-segment, put-again, put-splittable, choice-found, choice-into, free-below}
-use Rattle.layout.specs.declared.header.Header.{Header}
-use Rattle.layout.specs.declared.entry.Entry.{Entry}
-use Rattle.layout.specs.declared.entry.Entry.the-variants.{At, Broken}
 use Rattle.directory.specs.declared.free.Free.{Free}
 use Rattle.directory.specs.declared.free.Free.the-variants.{Segment, Nothing}
-use Rattle.layout.specs.Headers.{Describes}
-use Rattle.layout.specs.Entries.{entrySaid, entryOf}
 use Rattle.directory.specs.Frees.{freeOf}
+use Rattle.layout.specs.declared.place.Place.{Place}
 use Rattle.layout.proofs.Shapes.{bounds}
+use Rattle.layout.proofs.Places.{place-bounds}
+use Rattle.structure.specs.Splits.{CanSplit}
 use Rattle.segment.specs.declared.choice.Choice.{Choice}
 use Rattle.segment.specs.declared.choice.Choice.the-variants.{Found, Into, Full}
 use Rattle.segment.specs.Answers.{choiceOf}
-use Rattle.index.specs.declared.check.Checked.{Checked}
-use Rattle.index.specs.declared.check.Checked.the-variants.{Passed as PassedCheck}
 use Rattle.index.specs.Answered.{Answered}
-use Rattle.index.specs.Checked.{CheckedBy}
 use Rattle.index.specs.Slots.{valuePut, recordPut}
-use Rattle.index.specs.Splits.{SplitAt}
 use Rattle.index.proofs.Answers.{answered-only}
-use Rattle.index.proofs.Checks.{check-passed, passed-range}
-use Rattle.index.proofs.Places.{Located, SegmentAt, located, out-of-range, segment-at}
+use Rattle.index.proofs.Places.{Stands}
 
 -- ---- Stores at a slot
 
@@ -98,83 +91,45 @@ module _ (n : ℕ) (ss : List Store) (p : Plan Said) (a : List ℕ) where
 
 -- ---- What the code has read
 
--- The tests have passed, and the header is what word 0 says.
-pub record Tested (h : Header) (a : List ℕ) (key : ℕ) : Type 0 where
-  pub tests-passed : putTests a key ≡ none
-  pub header-read : Describes h a
-
--- And the key's entry names segment s with local depth L.
-pub record KeyPlace (h : Header) (a : List ℕ) (key s L : ℕ) : Type 0 where
-  pub tests-passed : putTests a key ≡ none
-  pub header-read : Describes h a
-  pub entry : Located h a key s L
-
--- And the window is full, and there are a depth and a segment for a split.
-pub record MustSplit (h : Header) (a : List ℕ) (key s L n : ℕ) : Type 0 where
-  pub place : KeyPlace h a key s L
+-- The window is full, and there are a depth and a segment for a split.
+pub record MustSplit (p : Place) (a : List ℕ) (key n : ℕ) : Type 0 where
+  pub stands : Stands p a key (putTests a key)
   pub window-full : keyChoice a key ≡ full
   pub room : localDepth (keyEntry a key) < maxDepth a
   pub free : freeSegment a ≡ some n
 
-pub tested : (a : List ℕ) (key : ℕ) (r : Checked) → CheckedBy r a (putTests a key) → {h : Header} → r ≡ PassedCheck h → Tested h a key
-tested a key r k {h} e =
-    let t = check-passed r a (putTests a key) k h e in
-    record { tests-passed = t .0; header-read = t .1 }
+module _ {p : Place} {a : List ℕ} {key : ℕ} (k : Stands p a key (putTests a key)) (x : Choice) (c : choiceOf x ≡ keyChoice a (p .key)) where
+  key-choice : choiceOf x ≡ keyChoice a key
+  key-choice = rw (k .1) at c
 
-module _ {h : Header} {a : List ℕ} {key : ℕ} (k : Tested h a key) (i : ℕ) (e : i ≡ index key (h .depth))
-    (x : Entry) (said : entrySaid x ≡ entryOf (depth a) (segments a) (entryAt a (depth a) i)) where
-  pub entry-not-broken : x ≡ Broken → ⊥
-  entry-not-broken q =
-      let inside : inRange (depth a) (segments a) (keyEntry a key) ≡ true = passed-range a key (k .tests-passed) in
-      let outside : inRange (depth a) (segments a) (keyEntry a key) ≡ false = out-of-range (k .header-read) key i e x said q in
-      false≢true (sym outside ∙ inside)
+  pub choice-full-read : x ≡ Full → keyChoice a key ≡ full
+  choice-full-read q = sym (rw q at key-choice)
 
-  pub key-place : {s L : ℕ} → x ≡ At s L → KeyPlace h a key s L
-  key-place {s} {L} q =
-      record { tests-passed = k .tests-passed; header-read = k .header-read; entry = located (k .header-read) key i e x said s L q }
+  choice-found-read : {j : ℕ} → x ≡ Found j → keyChoice a key ≡ found j
+  choice-found-read q = sym (rw q at key-choice)
 
-module _ {h : Header} {a : List ℕ} {key s L : ℕ} (p : KeyPlace h a key s L) where
-  pub local-small : L ≤ 12
-  local-small = let b = bounds (p .header-read) in let l = p .entry .depth-low in omega arith
+  choice-into-read : {j : ℕ} → x ≡ Into j → keyChoice a key ≡ into j
+  choice-into-read q = sym (rw q at key-choice)
 
-  module _ (base : ℕ) (b : base ≡ segmentAddress (h .«max_depth») s) where
-    stands : SegmentAt a key base
-    stands = segment-at (p .header-read) (p .entry) base b
+  pub found-slot : {j : ℕ} → x ≡ Found j → j < 64
+  found-slot {j} q = hit-slot a (keySegment a key) key j (choice-found a key j (choice-found-read q))
 
-    pub place-fits : base + 128 ≤ length a
-    place-fits = stands .whole
+  pub into-slot : {j : ℕ} → x ≡ Into j → j < 64
+  into-slot {j} q = usable-slot a (keySegment a key) _ _ key j (choice-into a key j (choice-into-read q) .1)
 
-    module _ (x : Choice) (c : choiceOf x ≡ choose a base L (index key L) key) where
-      key-choice : choiceOf x ≡ keyChoice a key
-      unfolding keyChoice
-      key-choice =
-          rw (stands .base-is, p .entry .depth-is, index-shift key (depth a) L (rw (p .header-read .depth-read) (p .entry .depth-low))) c
+  base-is : keySegment a key ≡ p .base
+  base-is = rw (k .1) at (k .2 .base-is)
 
-      pub choice-full-read : x ≡ Full → keyChoice a key ≡ full
-      choice-full-read q = sym (rw q at key-choice)
+  module _ (value allowance : ℕ) (r : Answer) (after : List ℕ) where
+    pub answers-found : {j : ℕ} → x ≡ Found j → Answered (changed allowance (valuePut p value j) a) r after
+        → Answered (step a 0 (Put key value allowance)) r after
+    unfolding effect step
+    answers-found {j} q m = rw (put-found a key value (k .0) j (choice-found-read q), base-is) m
 
-      choice-found-read : {j : ℕ} → x ≡ Found j → keyChoice a key ≡ found j
-      choice-found-read q = sym (rw q at key-choice)
-
-      choice-into-read : {j : ℕ} → x ≡ Into j → keyChoice a key ≡ into j
-      choice-into-read q = sym (rw q at key-choice)
-
-      pub found-slot : {j : ℕ} → x ≡ Found j → j < 64
-      found-slot {j} q = hit-slot a (keySegment a key) key j (choice-found a key j (choice-found-read q))
-
-      pub into-slot : {j : ℕ} → x ≡ Into j → j < 64
-      into-slot {j} q = usable-slot a (keySegment a key) _ _ key j (choice-into a key j (choice-into-read q) .1)
-
-      module _ (value allowance : ℕ) (r : Answer) (after : List ℕ) where
-        pub answers-found : {j : ℕ} → x ≡ Found j → Answered (changed allowance (valuePut base value j) a) r after
-            → Answered (step a 0 (Put key value allowance)) r after
-        unfolding effect step
-        answers-found {j} q m = rw (put-found a key value (p .tests-passed) j (choice-found-read q), stands .base-is) m
-
-        pub answers-into : {j : ℕ} → x ≡ Into j → Answered (changed allowance (recordPut base key value j) a) r after
-            → Answered (step a 0 (Put key value allowance)) r after
-        unfolding effect step
-        answers-into {j} q m = rw (put-into a key value (p .tests-passed) j (choice-into-read q), stands .base-is) m
+    pub answers-into : {j : ℕ} → x ≡ Into j → Answered (changed allowance (recordPut p value j) a) r after
+        → Answered (step a 0 (Put key value allowance)) r after
+    unfolding effect step
+    answers-into {j} q m = rw (put-into a key value (k .0) j (choice-into-read q), base-is, ← k .1) m
 
 -- ---- Refusals
 
@@ -184,53 +139,57 @@ unfolding effect step
 answers-refused a key value allowance q r t e =
     rw (put-refused a key value q t) (answered-only allowance (refuse q) a r (ap saidBy (e .0)) (e .1))
 
-module _ {h : Header} {a : List ℕ} {key s L : ℕ} (p : KeyPlace h a key s L) (full-window : keyChoice a key ≡ full) where
-  pub answers-too-deep : (value allowance : ℕ) → L ≡ h .«max_depth» → (r : Answer) → (r .reply ≡ RefusedReply TooDeep) × (r .stores ≡ 0)
-      → Answered (step a 0 (Put key value allowance)) r a
+module _ {p : Place} {a : List ℕ} {key : ℕ} (k : Stands p a key (putTests a key)) (full-window : keyChoice a key ≡ full) where
+  depth-is : localDepth (keyEntry a key) ≡ p .«local_depth»
+  depth-is = rw (k .1) at (k .2 .depth-is)
+
+  pub answers-too-deep : (value allowance : ℕ) → p .«local_depth» ≡ p .header .«max_depth» → (r : Answer)
+      → (r .reply ≡ RefusedReply TooDeep) × (r .stores ≡ 0) → Answered (step a 0 (Put key value allowance)) r a
   unfolding effect step
   answers-too-deep value allowance d r e =
-      let deep : localDepth (keyEntry a key) ≡ maxDepth a = p .entry .depth-is ∙ d ∙ sym (p .header-read .max-depth-read) in
-      rw (put-too-deep a key value (p .tests-passed) full-window deep)
+      let deep : localDepth (keyEntry a key) ≡ maxDepth a = depth-is ∙ d ∙ sym (k .2 .header-read .max-depth-read) in
+      rw (put-too-deep a key value (k .0) full-window deep)
       (answered-only allowance (refuse TooDeep) a r (ap saidBy (e .0)) (e .1))
 
-  module _ (not-deep : L ≡ h .«max_depth» → ⊥) where
+  module _ (not-deep : p .«local_depth» ≡ p .header .«max_depth» → ⊥) where
     room : localDepth (keyEntry a key) < maxDepth a
     room =
-        let b = bounds (p .header-read) in
-        let l = p .entry .depth-low in
-        let less : L < h .«max_depth» = omega (arith, not-deep) in
-        rw (p .entry .depth-is, p .header-read .max-depth-read) less
+        let b = bounds (k .2 .header-read) in
+        let l = place-bounds (k .2) .local-low in
+        let less : p .«local_depth» < p .header .«max_depth» = omega (arith, not-deep) in
+        rw (depth-is, k .2 .header-read .max-depth-read) less
 
     module _ {x : Free} (f : freeOf x ≡ freeSegment a) where
       pub answers-no-segment : (value allowance : ℕ) → x ≡ Nothing → (r : Answer) → (r .reply ≡ RefusedReply NoSegment) × (r .stores ≡ 0)
           → Answered (step a 0 (Put key value allowance)) r a
       unfolding effect step
       answers-no-segment value allowance q r e =
-          rw (put-no-segment a key value (p .tests-passed) full-window room (sym (rw q at f)))
+          rw (put-no-segment a key value (k .0) full-window room (sym (rw q at f)))
           (answered-only allowance (refuse NoSegment) a r (ap saidBy (e .0)) (e .1))
 
-      pub must-split : {n : ℕ} → x ≡ Segment n → MustSplit h a key s L n
-      must-split q = record { place = p; window-full = full-window; room = room; free = sym (rw q at f) }
+      pub must-split : {n : ℕ} → x ≡ Segment n → MustSplit p a key n
+      must-split q = record { stands = k; window-full = full-window; room = room; free = sym (rw q at f) }
 
 -- ---- A split, and the put behind it
 
-module _ {h : Header} {a : List ℕ} {key s L n : ℕ} (m : MustSplit h a key s L n) where
-  pub can-split : SplitAt h a key s L n
+module _ {p : Place} {a : List ℕ} {key n : ℕ} (m : MustSplit p a key n) where
+  pub can-split : CanSplit p n a
   can-split =
-      let d = m .place .header-read in
+      let k = m .stands in
+      let d = k .2 .header-read in
+      let at : localDepth (keyEntry a key) ≡ p .«local_depth» = rw (k .1) at (k .2 .depth-is) in
       record {
-        header-read = d;
-        segment-is = m .place .entry .segment-is;
-        depth-is = m .place .entry .depth-is;
-        local-low = m .place .entry .depth-low;
-        local-room = rw (m .place .entry .depth-is, d .max-depth-read) at (m .room);
-        segment-below = m .place .entry .segment-below;
+        place = k .2;
+        local-room = rw (at, d .max-depth-read) at (m .room);
         new-below = rw (d .segments-read) at (free-below a n (m .free) .0);
       }
 
-  module _ (value : ℕ) {allowance due : ℕ} {b : List ℕ} (made : Executed (splitting a key n) allowance 0 a due b) where
+  module _ (value : ℕ) {allowance due : ℕ} {b : List ℕ} (done-so : Executed (splitting a (p .key) n) allowance 0 a due b) where
+    made : Executed (splitting a key n) allowance 0 a due b
+    made = rw (m .stands .1) at done-so
+
     plan : put a key value ≡ splitting a key n then put (apply (splitting a key n) a) key value
-    plan = put-again a key value (m .place .tests-passed) (m .window-full) (m .room) n (m .free)
+    plan = put-again a key value (m .stands .0) (m .window-full) (m .room) n (m .free)
 
     due-length : due ≡ length (splitting a key n)
     due-length = made .count ∙ zero-add (length (splitting a key n))
@@ -250,7 +209,7 @@ module _ {h : Header} {a : List ℕ} {key s L n : ℕ} (m : MustSplit h a key s 
       put-falls =
           let u : ℕ = maxDepth a - suc (localDepth (keyEntry a key)) in
           let here : unused a key ≡ suc u = let l = m .room in omega arith in
-          let can : Splittable a key n = put-splittable a key value (m .place .tests-passed) (m .window-full) (m .room) n (m .free) in
+          let can : Splittable a key n = put-splittable a key value (m .stands .0) (m .window-full) (m .room) n (m .free) in
           let behind : unused b key ≡ u = rw split-whole (unused-falls a key n can u here) in
           omega arith
 

@@ -1,6 +1,4 @@
 -- What the calls promise.
 pub mod Answered
-pub mod Checked
 pub mod Blocks
-pub mod Splits
 pub mod Slots

@@ -1,16 +1,18 @@
--- The plans of a put at a slot.
+-- The plans of a put at a slot of its key's segment.
 -- Assumes nothing.
 use Prim.Native.Nat.{ℕ}
 use mathlib.Core.List.{[], _∷_}
 use Rattle.stores.specs.Store.{store}
 use Rattle.stores.specs.Plan.{Plan}
-use Rattle.rules.specs.Layout.{keyAddress, valueAddress}
 use Rattle.replies.specs.Replies.{Said, done}
+use Rattle.rules.specs.Layout.{keyAddress, valueAddress}
+use Rattle.layout.specs.declared.place.Place.{Place}
 
--- The value alone, at slot j of the segment at `base`.
-abbrev pub valuePut : (base value j : ℕ) → Plan Said
-valuePut base value j = record { due = store (valueAddress base j) value ∷ []; reply = done [] }
+-- The value alone, at slot j.
+abbrev pub valuePut : Place → (value j : ℕ) → Plan Said
+valuePut p value j = record { due = store (valueAddress (p .base) j) value ∷ []; reply = done [] }
 
 -- Value, then key.
-abbrev pub recordPut : (base key value j : ℕ) → Plan Said
-recordPut base key value j = record { due = store (valueAddress base j) value ∷ store (keyAddress base j) key ∷ []; reply = done [] }
+abbrev pub recordPut : Place → (value j : ℕ) → Plan Said
+recordPut p value j =
+    record { due = store (valueAddress (p .base) j) value ∷ store (keyAddress (p .base) j) (p .key) ∷ []; reply = done [] }

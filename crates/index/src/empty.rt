@@ -1,15 +1,27 @@
 // The stores of a format.
-use crate::place::clear_keys;
-use crate::place::segment_base;
+use layout::SLOTS;
 use layout::header::pack_header;
+use layout::header::segment_base;
 use stores::store_word;
 ghost use mathlib.Core.Path.{_≡_};
 ghost use mathlib.Core.Bool.{true};
-ghost use Prim.Native.Nat.{_≤_};
+ghost use Prim.Native.Nat.{_+_, _≤_};
 ghost use lib.ListN.{length};
-ghost use Rattle.stores.specs.Executed.{Executed};
+ghost use Rattle.stores.specs.Executed.{Executed, dueLimit};
 ghost use Rattle.rules.specs.Layout.{validShape, wordsFor};
-ghost use Rattle.rules.specs.Format.{formatStores};
+ghost use Rattle.rules.specs.Format.{clearing, formatStores};
+
+// Stores 0 as the key of each slot of the segment at `base`, rising.
+fn clear_keys(words: &mut [u64], base: usize, allowed: u32, due: u32) -> u32
+    requires { ⌜ (base + 128 ≤ length (now words)) × (due ≤ dueLimit) ⌝ }
+    ensures { λ r. ⌜ Executed (clearing base) allowed due (now (words .entry)) r (now (words .exit)) ⌝ }
+{
+    let mut total = due;
+    for slot in 0..SLOTS {
+        total = store_word(words, base + 2 * slot, 0, allowed, total);
+    }
+    total
+}
 
 // Makes an empty index of this shape. Word 0 is not valid before the last store, so a cut leaves no
 // index.

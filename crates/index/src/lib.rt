@@ -1,34 +1,28 @@
 // The calls of document 01: format, get, put, remove, mend, list. Every array, also the empty one, and
 // every argument gets an answer; none has a requirement.
 mod answer;
-mod check;
 mod empty;
 mod listing;
 mod place;
 mod slot;
-mod split;
 
 use answer::after_stores;
 use answer::without_store;
-use check::Checked;
-use check::check_change;
 use directory::free::Free;
 use directory::free::free_segment;
 use directory::mend::mend_entries;
 use directory::scan::Verdict;
 use directory::scan::scan;
 use empty::store_empty;
-use layout::entry::Entry;
-use layout::entry::directory_index;
-use layout::entry::read_entry;
 use layout::header::HeaderRead;
 use layout::header::read_header;
 use layout::header::valid_shape;
 use layout::header::words_for;
+use layout::place::Placed;
 use listing::count_records;
 use listing::write_records;
-use place::find_at;
-use place::segment_base;
+use place::place_to_change;
+use place::place_to_read;
 use replies::Answer;
 use replies::Refusal;
 use replies::Reply;
@@ -36,10 +30,11 @@ use rules::Call;
 use segment::choice::Choice;
 use segment::probe::Hit;
 use slot::choose_at;
+use slot::find_at;
 use slot::put_record;
 use slot::put_value;
-use split::split;
 use stores::store_word;
+use structure::split::split;
 ghost use Rattle.rules.specs.declared.Call.the-variants.{Format, Get, Put, Remove, Mend, List as ListCall};
 ghost use Rattle.rules.specs.Step.{step, Performed};
 ghost use Rattle.index.specs.Answered.{Answered};
@@ -62,20 +57,14 @@ pub fn format(words: &mut [u64], depth: u64, segments: u64, allowance: u32) -> A
 pub fn get(words: &[u64], key: u64) -> Answer
     ensures { λ r. ⌜ Answered (step (now (words .entry)) 0 (Get key)) r (now (words .entry)) ⌝ }
 {
-    let HeaderRead::Valid(header) = read_header(words) else {
-        return without_store(Reply::Refused(Refusal::NoStore));
+    let place = match place_to_read(words, key) {
+        Placed::At(place) => place,
+        Placed::Refused(refusal) => return without_store(Reply::Refused(refusal)),
     };
-    if key == 0 {
-        return without_store(Reply::Refused(Refusal::NoKey));
-    }
-    let i = directory_index(key, header.depth);
-    let Entry::At { segment, depth: _ } = read_entry(words, header, i) else {
-        return without_store(Reply::Refused(Refusal::Broken));
-    };
-    let base = segment_base(header.max_depth, segment);
-    let Hit::At(slot) = find_at(words, base, key) else {
+    let Hit::At(slot) = find_at(words, place) else {
         return without_store(Reply::Absent);
     };
+    let base = place.base;
     without_store(Reply::Value(words[base + 2 * slot + 1]))
 }
 
@@ -84,27 +73,23 @@ pub fn get(words: &[u64], key: u64) -> Answer
 pub fn put(words: &mut [u64], key: u64, value: u64, allowance: u32) -> Answer
     ensures { λ r. ⌜ Answered (step (now (words .entry)) 0 (Put key value allowance)) r (now (words .exit)) ⌝ }
 {
-    let header = match check_change(words, key) {
-        Checked::Passed(header) => header,
-        Checked::Refused(refusal) => return without_store(Reply::Refused(refusal)),
+    let place = match place_to_change(words, key) {
+        Placed::At(place) => place,
+        Placed::Refused(refusal) => return without_store(Reply::Refused(refusal)),
     };
-    let i = directory_index(key, header.depth);
-    let Entry::At { segment, depth } = read_entry(words, header, i) else {
-        return without_store(Reply::Refused(Refusal::Broken));
-    };
-    let base = segment_base(header.max_depth, segment);
-    match choose_at(words, base, depth, key) {
-        Choice::Found(slot) => return put_value(words, base, slot, value, allowance),
-        Choice::Into(slot) => return put_record(words, base, slot, key, value, allowance),
+    match choose_at(words, place) {
+        Choice::Found(slot) => return put_value(words, place, slot, value, allowance),
+        Choice::Into(slot) => return put_record(words, place, slot, value, allowance),
         Choice::Full => {}
     }
-    if depth == header.max_depth {
+    let header = place.header;
+    if place.local_depth == header.max_depth {
         return without_store(Reply::Refused(Refusal::TooDeep));
     }
     let Free::Segment(new_segment) = free_segment(words, header) else {
         return without_store(Reply::Refused(Refusal::NoSegment));
     };
-    let due = split(words, header, key, segment, depth, new_segment, allowance);
+    let due = split(words, place, new_segment, allowance);
     if allowance < due {
         return Answer {
             reply: Reply::Refused(Refusal::CutOff),
@@ -122,18 +107,14 @@ pub fn put(words: &mut [u64], key: u64, value: u64, allowance: u32) -> Answer
 pub fn remove(words: &mut [u64], key: u64, allowance: u32) -> Answer
     ensures { λ r. ⌜ Answered (step (now (words .entry)) 0 (Remove key allowance)) r (now (words .exit)) ⌝ }
 {
-    let header = match check_change(words, key) {
-        Checked::Passed(header) => header,
-        Checked::Refused(refusal) => return without_store(Reply::Refused(refusal)),
+    let place = match place_to_change(words, key) {
+        Placed::At(place) => place,
+        Placed::Refused(refusal) => return without_store(Reply::Refused(refusal)),
     };
-    let i = directory_index(key, header.depth);
-    let Entry::At { segment, depth: _ } = read_entry(words, header, i) else {
-        return without_store(Reply::Refused(Refusal::Broken));
-    };
-    let base = segment_base(header.max_depth, segment);
-    let Hit::At(slot) = find_at(words, base, key) else {
+    let Hit::At(slot) = find_at(words, place) else {
         return without_store(Reply::Absent);
     };
+    let base = place.base;
     let due = store_word(words, base + 2 * slot, 0, allowance, 0);
     after_stores(Reply::Done, allowance, due)
 }

@@ -17,10 +17,14 @@ use Rattle.replies.specs.Replies.{Said, done, unless, tested}
 unfoldable pub formatTests : List ℕ → (D S : ℕ) → Option Refusal
 formatTests a D S = unless (validShape D S) BadShape (unless (leb (wordsFor D S) (length a)) TooShort none)
 
+-- The key words of the segment at `base` := 0, rising.
+abbrev pub clearing : (base : ℕ) → List Store
+clearing base = each (λ j. store (keyAddress base j) 0 ∷ []) 64
+
 -- Format's stores: word 0 := 0; word 1 := 0; segment 0's key words := 0, rising; word 0 := valid, with G = 0.
 unfoldable pub formatStores : (D S : ℕ) → List Store
 formatStores D S =
-    store 0 0 ∷ store 1 0 ∷ each (λ j. store (keyAddress (segmentAddress D 0) j) 0 ∷ []) 64 ++ (store 0 (header 0 D S) ∷ [])
+    store 0 0 ∷ store 1 0 ∷ clearing (segmentAddress D 0) ++ (store 0 (header 0 D S) ∷ [])
 
 -- The plan of a format.
 unfoldable pub format : List ℕ → (D S : ℕ) → Plan Said

@@ -80,7 +80,7 @@ returns-4 c =
 write-records-requires : tie.Need-write-records-requires
 write-records-requires c κs =
     let v = verdict-consistent _ _ (c .before .before .before .before .before .scan .ensures) (c .before .before .before .enum-told4 .given .1) in
-    (header-valid _ _ (c .before .before .before .before .before .before .before .before .before .read-header .ensures) _ (c .before .before .before .before .before .before .before .header .given .1), v .0, rw (c .before .before .count-records .ensures .0) at (c .before .if1 .left))
+    ((header-valid _ _ (c .before .before .before .before .before .before .before .before .before .read-header .ensures) _ (c .before .before .before .before .before .before .before .header .given .1), v .0), rw (c .before .before .count-records .ensures .0) at (c .before .if1 .left))
 
 without-store-requires-5 : tie.Need-without-store-requires-5
 without-store-requires-5 c κs = search needs

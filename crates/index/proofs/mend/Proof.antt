@@ -52,7 +52,7 @@ returns-2 c =
 mend-entries-requires : tie.Need-mend-entries-requires
 mend-entries-requires c κs =
     let d = header-valid _ _ (c .before .before .before .before .before .before .before .read-header .ensures) _ (c .before .before .before .before .before .header .given .1) in
-    (d, verdict-valid (c .before .before .before .before .before .before .before .before .before .before .args .words .now) (c .before .before .scan .result) (c .before .before .scan .ensures) (λ q. ⊎-elim (λ e. omega (arith, rw q at e)) (λ e. omega (arith, rw q at e)) (c .before .match2 .keys2)), search needs)
+    ((d, verdict-valid (c .before .before .before .before .before .before .before .before .before .before .args .words .now) (c .before .before .scan .result) (c .before .before .scan .ensures) (λ q. ⊎-elim (λ e. omega (arith, rw q at e)) (λ e. omega (arith, rw q at e)) (c .before .match2 .keys2))), search needs)
 
 after-stores-requires : tie.Need-after-stores-requires
 after-stores-requires c κs = search needs

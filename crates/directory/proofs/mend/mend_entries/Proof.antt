@@ -28,7 +28,7 @@ abbrev μ-loop : tie.MeasureT-loop
 μ-loop words₀ header allowed due count block₀ total₀ i₀ words block total i = count - i
 
 pow2-requires : tie.Need-pow2-requires Inv-loop μ-loop
-pow2-requires c κs = let b = bounds (c .before .pre .0) in omega arith
+pow2-requires c κs = let b = bounds (c .before .pre .0 .0) in omega arith
 
 loop-holds : tie.Need-loop-holds Inv-loop μ-loop
 loop-holds c =
@@ -36,36 +36,36 @@ loop-holds c =
     (omega arith, omega arith, search needs, at-start _ _ _, before-loop (mendEntry a (depth a)) _ _ _)
 
 add-at : tie.Need-add-at Inv-loop μ-loop
-add-at c = let b = bounds (c .before .before .before .before .pre .0) in omega arith
+add-at c = let b = bounds (c .before .before .before .before .pre .0 .0) in omega arith
 
 mul-next-block : tie.Need-mul-next-block Inv-loop μ-loop
-mul-next-block c = let b = bounds (c .before .before .before .before .pre .0) in omega arith
+mul-next-block c = let b = bounds (c .before .before .before .before .pre .0 .0) in omega arith
 
 slice-read-next-block : tie.Need-slice-read-next-block Inv-loop μ-loop
-slice-read-next-block c = let b = bounds (c .before .before .before .before .before .pre .0) in omega arith
+slice-read-next-block c = let b = bounds (c .before .before .before .before .before .pre .0 .0) in omega arith
 
 next-block-requires : tie.Need-next-block-requires Inv-loop μ-loop
 next-block-requires c κs =
-    let b = bounds (c .before .before .before .before .before .pre .0) in
+    let b = bounds (c .before .before .before .before .before .pre .0 .0) in
     let i = c .before .before .loop .inv in (
       omega arith,
       omega arith,
       λ e.
           rw
-          (mend-read (c .before .before .before .before .before .pre .0) _ _ _ (c .before .before .before .pow2 .ensures) (c .before .before .loop .i) _ _ (i .4))
-          (mend-depth (c .before .before .before .before .before .pre .0) _ 0 0 (c .before .before .before .pow2 .ensures)
-          (c .before .before .before .before .before .pre .1) (c .before .before .loop .i) (c .before .loop-test .taken)
+          (mend-read (c .before .before .before .before .before .pre .0 .0) _ _ _ (c .before .before .before .pow2 .ensures) (c .before .before .loop .i) _ _ (i .4))
+          (mend-depth (c .before .before .before .before .before .pre .0 .0) _ 0 0 (c .before .before .before .pow2 .ensures)
+          (c .before .before .before .before .before .pre .0 .1) (c .before .before .loop .i) (c .before .loop-test .taken)
           (c .before .before .loop .block) (i .3) e),
     )
 
 mend-entry-requires : tie.Need-mend-entry-requires Inv-loop μ-loop
 mend-entry-requires c κs =
-    let b = bounds (c .before .before .before .before .before .before .before .pre .0) in
+    let b = bounds (c .before .before .before .before .before .before .before .pre .0 .0) in
     (omega (arith, c .before .before .before), omega (arith, c .before .before .before))
 
 add-i : tie.Need-add-i Inv-loop μ-loop
 add-i c =
-    let b = bounds (c .before .before .before .before .before .before .before .before .before .before .pre .0) in omega
+    let b = bounds (c .before .before .before .before .before .before .before .before .before .before .pre .0 .0) in omega
     (arith, c .before .before .before .before .before .before)
 
 loop-less : tie.Need-loop-less Inv-loop μ-loop
@@ -73,12 +73,12 @@ loop-less c = omega (arith, c .before .before .before .before .before .before)
 
 loop-again : tie.Need-loop-again Inv-loop μ-loop
 loop-again c =
-    let d = c .before .before .before .before .before .before .before .before .before .before .pre .0 in
+    let d = c .before .before .before .before .before .before .before .before .before .before .pre .0 .0 in
     let k = c .before .before .before .before .before .before .before .before .pow2 .ensures in
     let i = c .before .before .before .before .before .before .before .loop .inv in
     let n = c .before .before .before .before .next-block .result in
     let p = c .before .before .mend-entry .ensures in
-    let f = mend-found d _ _ _ k (c .before .before .before .before .before .before .before .before .before .before .pre .1)
+    let f = mend-found d _ _ _ k (c .before .before .before .before .before .before .before .before .before .before .pre .0 .1)
     (c .before .before .before .before .before .before .before .loop .i) _ _
     (c .before .before .before .before .before .before .before .loop .block) n
     (c .before .before .before .before .before .before .loop-test .taken) (i .3) (i .4)
@@ -95,7 +95,7 @@ same-length c = c .before .loop .inv .2
 
 returns : tie.Need-returns Inv-loop μ-loop
 returns c =
-    mend-end (c .before .before .before .before .pre .0) _ _ _ (c .before .before .pow2 .ensures) (c .before .loop .i) _ _ (omega arith)
+    mend-end (c .before .before .before .before .pre .0 .0) _ _ _ (c .before .before .pow2 .ensures) (c .before .loop .i) _ _ (omega arith)
     (c .before .loop .inv .4)
 
 pub mend-entries-spec : {M : Type 1} → statement M

@@ -10,7 +10,7 @@ use Rattle.rules.specs.Layout.{depth}
 use Rattle.rules.specs.Scan.{leader}
 use Rattle.rules.proofs.Scan.{leader-zero}
 use Rattle.layout.proofs.Shapes.{bounds}
-use Rattle.index.proofs.Parts.{span, part-length}
+use Rattle.segment.proofs.Parts.{span, part-length}
 use Rattle.index.proofs.Listings.{recordsTo, records-start, records-end, turn, count-turn}
 use Rattle.index.proofs.listing.count_records.Statement.{statement}
 use Rattle.index.proofs.listing.count_records.Tie as tie
@@ -30,7 +30,7 @@ loop-holds c = (omega arith, omega arith, leader-zero _ _, rw records-start)
 
 read-block-requires : tie.Need-read-block-requires Inv-loop μ-loop
 read-block-requires c κs =
-    (c .before .before .before .before .pre .0, c .before .before .before .before .pre .1, rw (c .before .before .before .before .pre .0 .depth-read) (omega (arith, c .before .before .pow2 .ensures)), c .before .loop .inv .2)
+    (c .before .before .before .before .pre, (rw (c .before .before .before .before .pre .0 .depth-read) (omega (arith, c .before .before .pow2 .ensures)), c .before .loop .inv .2))
 
 add-count-live : tie.Need-add-count-live Inv-loop μ-loop
 add-count-live c = let t = turn (c .before .before .before .before .before .pre .0) (c .before .before .before .before .before .pre .1) _ (c .before .before .before .pow2 .ensures) _ (c .before .loop-test .taken) (c .before .before .loop .inv .2) _ (c .read-block .ensures) in omega arith

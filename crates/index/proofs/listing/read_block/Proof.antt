@@ -10,16 +10,16 @@ use Rattle.index.proofs.listing.read_block.Statement.{statement}
 use Rattle.index.proofs.listing.read_block.Tie as tie
 
 pow2-requires : tie.Need-pow2-requires
-pow2-requires c κs = let b = bounds (c .before .pre .0) in omega arith
+pow2-requires c κs = let b = bounds (c .before .pre .0 .0) in omega arith
 
 add-at : tie.Need-add-at
-add-at c = let b = bounds (c .before .before .pre .0) in omega (arith, rw (c .before .before .pre .0 .depth-read) at (c .before .before .pre .2))
+add-at c = let b = bounds (c .before .before .pre .0 .0) in omega (arith, rw (c .before .before .pre .0 .0 .depth-read) at (c .before .before .pre .1 .0))
 
 mul-entry : tie.Need-mul-entry
-mul-entry c = let b = bounds (c .before .before .pre .0) in omega (arith, rw (c .before .before .pre .0 .depth-read) at (c .before .before .pre .2))
+mul-entry c = let b = bounds (c .before .before .pre .0 .0) in omega (arith, rw (c .before .before .pre .0 .0 .depth-read) at (c .before .before .pre .1 .0))
 
 shared-slice-read-entry : tie.Need-shared-slice-read-entry
-shared-slice-read-entry c = let b = bounds (c .before .before .before .pre .0) in omega (arith, rw (c .before .before .before .pre .0 .depth-read) at (c .before .before .before .pre .2))
+shared-slice-read-entry c = let b = bounds (c .before .before .before .pre .0 .0) in omega (arith, rw (c .before .before .before .pre .0 .0 .depth-read) at (c .before .before .before .pre .1 .0))
 
 local-depth-of-requires : tie.Need-local-depth-of-requires
 local-depth-of-requires c κs = search needs
@@ -29,36 +29,36 @@ segment-of-requires c κs = search needs
 
 segment-base-requires : tie.Need-segment-base-requires
 segment-base-requires c κs =
-    let b = bounds (c .before .before .before .before .before .pre .0) in
-    let l = leader-bounds (c .before .before .before .before .before .pre .0) (c .before .before .before .before .before .pre .1) _ (c .before .before .before .before .before .pre .2) (c .before .before .before .before .before .pre .3) _ (c .before .before .before .pow2 .ensures) in
+    let b = bounds (c .before .before .before .before .before .pre .0 .0) in
+    let l = leader-bounds (c .before .before .before .before .before .pre .0 .0) (c .before .before .before .before .before .pre .0 .1) _ (c .before .before .before .before .before .pre .1 .0) (c .before .before .before .before .before .pre .1 .1) _ (c .before .before .before .pow2 .ensures) in
     (omega arith, rw (c .segment-of .ensures) (l .segment-small))
 
-block-key-requires : tie.Need-block-key-requires
-block-key-requires c κs =
-    let b = bounds (c .before .before .before .before .before .before .pre .0) in
-    let l = leader-bounds (c .before .before .before .before .before .before .pre .0) (c .before .before .before .before .before .before .pre .1) _ (c .before .before .before .before .before .before .pre .2) (c .before .before .before .before .before .before .pre .3) _ (c .before .before .before .before .pow2 .ensures) in
-    (rw (c .before .before .local-depth-of .ensures) (l .depth-low), b .depth-high, rw (c .before .before .before .before .before .before .pre .0 .depth-read) at (c .before .before .before .before .before .before .pre .2))
+block-bits-requires : tie.Need-block-bits-requires
+block-bits-requires c κs =
+    let b = bounds (c .before .before .before .before .before .before .pre .0 .0) in
+    let l = leader-bounds (c .before .before .before .before .before .before .pre .0 .0) (c .before .before .before .before .before .before .pre .0 .1) _ (c .before .before .before .before .before .before .pre .1 .0) (c .before .before .before .before .before .before .pre .1 .1) _ (c .before .before .before .before .pow2 .ensures) in
+    (rw (c .before .before .local-depth-of .ensures) (l .depth-low), b .depth-high, rw (c .before .before .before .before .before .before .pre .0 .0 .depth-read) at (c .before .before .before .before .before .before .pre .1 .0))
 
 block-width-requires : tie.Need-block-width-requires
 block-width-requires c κs =
-    let b = bounds (c .before .before .before .before .before .before .before .pre .0) in
-    let l = leader-bounds (c .before .before .before .before .before .before .before .pre .0) (c .before .before .before .before .before .before .before .pre .1) _ (c .before .before .before .before .before .before .before .pre .2) (c .before .before .before .before .before .before .before .pre .3) _ (c .before .before .before .before .before .pow2 .ensures) in
+    let b = bounds (c .before .before .before .before .before .before .before .pre .0 .0) in
+    let l = leader-bounds (c .before .before .before .before .before .before .before .pre .0 .0) (c .before .before .before .before .before .before .before .pre .0 .1) _ (c .before .before .before .before .before .before .before .pre .1 .0) (c .before .before .before .before .before .before .before .pre .1 .1) _ (c .before .before .before .before .before .pow2 .ensures) in
     (rw (c .before .before .before .local-depth-of .ensures) (l .depth-low), b .depth-high)
 
 add-next : tie.Need-add-next
 add-next c =
-    let b = bounds (c .before .before .before .before .before .before .before .before .pre .0) in
+    let b = bounds (c .before .before .before .before .before .before .before .before .pre .0 .0) in
     let w = width-le (c .before .before .before .before .before .before .before .before .args .header .depth) (c .before .before .before .before .local-depth-of .result) (b .depth-high) in
-    omega (arith, c .block-width .ensures, rw (c .before .before .before .before .before .before .before .before .pre .0 .depth-read) at (c .before .before .before .before .before .before .before .before .pre .2))
+    omega (arith, c .block-width .ensures, rw (c .before .before .before .before .before .before .before .before .pre .0 .0 .depth-read) at (c .before .before .before .before .before .before .before .before .pre .1 .0))
 
 returns : tie.Need-returns
 returns c =
-    let d = c .before .before .before .before .before .before .before .before .pre .0 in
+    let d = c .before .before .before .before .before .before .before .before .pre .0 .0 in
     let w = entry-word _ (c .before .before .before .before .before .before .before .before .args .i) d (c .before .before .before .before .before .before .pow2 .ensures) in
     record {
       base-is = rw (← w, d .max-depth-read, ← c .before .before .before .segment-of .ensures) (c .before .before .segment-base .ensures);
       depth-is = rw (← w) (c .before .before .before .before .local-depth-of .ensures);
-      bits-are = rw (d .depth-read) (c .before .block-key .ensures);
+      bits-are = rw (d .depth-read) (c .before .block-bits .ensures);
       next-is = rw (← w, d .depth-read, ← c .before .before .before .before .local-depth-of .ensures, c .block-width .ensures);
     }
 
@@ -73,7 +73,7 @@ read-block-spec =
     local-depth-of-requires
     segment-of-requires
     segment-base-requires
-    block-key-requires
+    block-bits-requires
     block-width-requires
     add-next
     returns)

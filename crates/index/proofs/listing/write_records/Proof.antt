@@ -14,7 +14,7 @@ use Rattle.stores.specs.Written.{Written}
 use Rattle.stores.proofs.Written.{written-none}
 use Rattle.segment.proofs.Records.{words-none, length-words}
 use Rattle.layout.proofs.Shapes.{bounds}
-use Rattle.index.proofs.Parts.{span, part-length}
+use Rattle.segment.proofs.Parts.{span, part-length}
 use Rattle.index.proofs.Listings.{recordsTo, records-start, records-end, turn, write-turn}
 use Rattle.index.proofs.listing.write_records.Statement.{statement}
 use Rattle.index.proofs.listing.write_records.Tie as tie
@@ -30,20 +30,20 @@ abbrev μ-loop : tie.MeasureT-loop
 μ-loop words header list₀ count at₀ i₀ list at i = count - i
 
 pow2-requires : tie.Need-pow2-requires Inv-loop μ-loop
-pow2-requires c κs = let b = bounds (c .before .before .pre .0) in omega arith
+pow2-requires c κs = let b = bounds (c .before .before .pre .0 .0) in omega arith
 
 loop-holds : tie.Need-loop-holds Inv-loop μ-loop
 loop-holds c = (omega arith, leader-zero _ _, refl, rw (records-start, words-none) (written-none 0 _))
 
 read-block-requires : tie.Need-read-block-requires Inv-loop μ-loop
 read-block-requires c κs =
-    (c .before .before .before .before .before .pre .0, c .before .before .before .before .before .pre .1, rw (c .before .before .before .before .before .pre .0 .depth-read) (omega (arith, c .before .before .pow2 .ensures)), c .before .loop .inv .1)
+    (c .before .before .before .before .before .pre .0, (rw (c .before .before .before .before .before .pre .0 .0 .depth-read) (omega (arith, c .before .before .pow2 .ensures)), c .before .loop .inv .1))
 
 add-write-live : tie.Need-add-write-live Inv-loop μ-loop
-add-write-live c = let t = turn (c .before .before .before .before .before .before .pre .0) (c .before .before .before .before .before .before .pre .1) _ (c .before .before .before .pow2 .ensures) _ (c .before .loop-test .taken) (c .before .before .loop .inv .1) _ (c .read-block .ensures) in omega arith
+add-write-live c = let t = turn (c .before .before .before .before .before .before .pre .0 .0) (c .before .before .before .before .before .before .pre .0 .1) _ (c .before .before .before .pow2 .ensures) _ (c .before .loop-test .taken) (c .before .before .loop .inv .1) _ (c .read-block .ensures) in omega arith
 
 mul-write-live : tie.Need-mul-write-live Inv-loop μ-loop
-mul-write-live c = let t = turn (c .before .before .before .before .before .before .pre .0) (c .before .before .before .before .before .before .pre .1) _ (c .before .before .before .pow2 .ensures) _ (c .before .loop-test .taken) (c .before .before .loop .inv .1) _ (c .read-block .ensures) in omega arith
+mul-write-live c = let t = turn (c .before .before .before .before .before .before .pre .0 .0) (c .before .before .before .before .before .before .pre .0 .1) _ (c .before .before .before .pow2 .ensures) _ (c .before .loop-test .taken) (c .before .before .loop .inv .1) _ (c .read-block .ensures) in omega arith
 
 sub-write-live : tie.Need-sub-write-live Inv-loop μ-loop
 sub-write-live c = search needs
@@ -52,27 +52,27 @@ part-write-live-start : tie.Need-part-write-live-start Inv-loop μ-loop
 part-write-live-start c = search needs
 
 part-write-live-end : tie.Need-part-write-live-end Inv-loop μ-loop
-part-write-live-end c = let t = turn (c .before .before .before .before .before .before .pre .0) (c .before .before .before .before .before .before .pre .1) _ (c .before .before .before .pow2 .ensures) _ (c .before .loop-test .taken) (c .before .before .loop .inv .1) _ (c .read-block .ensures) in omega arith
+part-write-live-end c = let t = turn (c .before .before .before .before .before .before .pre .0 .0) (c .before .before .before .before .before .before .pre .0 .1) _ (c .before .before .before .pow2 .ensures) _ (c .before .loop-test .taken) (c .before .before .loop .inv .1) _ (c .read-block .ensures) in omega arith
 
 write-live-requires : tie.Need-write-live-requires Inv-loop μ-loop
 write-live-requires c κs =
-    let t = turn (c .before .before .before .before .before .before .before .before .pre .0) (c .before .before .before .before .before .before .before .before .pre .1) _ (c .before .before .before .before .before .pow2 .ensures) _ (c .before .before .before .loop-test .taken) (c .before .before .before .before .loop .inv .1) _ (c .before .before .read-block .ensures) in
+    let t = turn (c .before .before .before .before .before .before .before .before .pre .0 .0) (c .before .before .before .before .before .before .before .before .pre .0 .1) _ (c .before .before .before .before .before .pow2 .ensures) _ (c .before .before .before .loop-test .taken) (c .before .before .before .before .loop .inv .1) _ (c .before .before .read-block .ensures) in
     let i = c .before .before .before .before .loop .inv in
     rw (span (c .before .before .read-block .result .base))
-    (part-length _ _ (t .whole), t .depth-small, omega (arith, t .room, i .2, i .3 .behind, c .before .before .before .before .before .before .before .before .pre .2, length-words (recordsTo (c .before .before .before .before .before .before .before .before .args .words .now) (c .before .before .before .before .loop .i))))
+    (part-length _ _ (t .whole), t .depth-small, omega (arith, t .room, i .2, i .3 .behind, c .before .before .before .before .before .before .before .before .pre .1, length-words (recordsTo (c .before .before .before .before .before .before .before .before .args .words .now) (c .before .before .before .before .loop .i))))
 
 loop-less : tie.Need-loop-less Inv-loop μ-loop
 loop-less c =
-    let t = turn (c .before .before .before .before .before .before .before .before .before .before .before .pre .0) (c .before .before .before .before .before .before .before .before .before .before .before .pre .1) _ (c .before .before .before .before .before .before .before .before .pow2 .ensures) _ (c .before .before .before .before .before .before .loop-test .taken) (c .before .before .before .before .before .before .before .loop .inv .1) _ (c .before .before .before .before .before .read-block .ensures) in
+    let t = turn (c .before .before .before .before .before .before .before .before .before .before .before .pre .0 .0) (c .before .before .before .before .before .before .before .before .before .before .before .pre .0 .1) _ (c .before .before .before .before .before .before .before .before .pow2 .ensures) _ (c .before .before .before .before .before .before .loop-test .taken) (c .before .before .before .before .before .before .before .loop .inv .1) _ (c .before .before .before .before .before .read-block .ensures) in
     omega (arith, t .onwards, c .before .before .before .before .before .before .loop-test .taken)
 
 loop-again : tie.Need-loop-again Inv-loop μ-loop
 loop-again c =
-    let t = turn (c .before .before .before .before .before .before .before .before .before .before .before .pre .0) (c .before .before .before .before .before .before .before .before .before .before .before .pre .1) _ (c .before .before .before .before .before .before .before .before .pow2 .ensures) _ (c .before .before .before .before .before .before .loop-test .taken) (c .before .before .before .before .before .before .before .loop .inv .1) _ (c .before .before .before .before .before .read-block .ensures) in
+    let t = turn (c .before .before .before .before .before .before .before .before .before .before .before .pre .0 .0) (c .before .before .before .before .before .before .before .before .before .before .before .pre .0 .1) _ (c .before .before .before .before .before .before .before .before .pow2 .ensures) _ (c .before .before .before .before .before .before .loop-test .taken) (c .before .before .before .before .before .before .before .loop .inv .1) _ (c .before .before .before .before .before .read-block .ensures) in
     let i = c .before .before .before .before .before .before .before .loop .inv in (
       t .inside,
       t .leads,
-      c .before .before .write-live .kept .1 .1 .1 .0 ∙ i .2,
+      c .before .before .write-live .kept .1 .1 .0 ∙ i .2,
       write-turn t _ _ _ _ _ (i .3) (rw (span (c .before .before .before .before .before .read-block .result .base)) at (c .before .before .write-live .ensures)),
     )
 
@@ -81,7 +81,7 @@ same-length c = c .before .loop .inv .2
 
 returns : tie.Need-returns Inv-loop μ-loop
 returns c =
-    let e = records-end (c .before .before .before .before .before .args .words .now) (c .before .loop .i) (rw (c .before .before .before .before .before .pre .0 .depth-read) (omega (arith, c .before .before .pow2 .ensures))) in
+    let e = records-end (c .before .before .before .before .before .args .words .now) (c .before .loop .i) (rw (c .before .before .before .before .before .pre .0 .0 .depth-read) (omega (arith, c .before .before .pow2 .ensures))) in
     rw e at (c .before .loop .inv .3)
 
 pub write-records-spec : {M : Type 1} → statement M

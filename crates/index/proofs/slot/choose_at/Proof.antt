@@ -1,16 +1,19 @@
 -- `index::slot::choose_at` meets its contract.
 -- Assumes nothing.
-use borrow.Author.Needs.{needs}
+use native.Mathlib.Omega.{arith}
 use mathlib.Core.Path.{_∙_}
-use Rattle.index.proofs.Parts.{span, part-choose}
+use Rattle.layout.proofs.Places.{place-bounds}
+use Rattle.segment.proofs.Parts.{span, part-choose}
+use Rattle.index.proofs.Places.{place-choice}
+use borrow.Author.Needs.{needs}
 use Rattle.index.proofs.slot.choose_at.Statement.{statement}
 use Rattle.index.proofs.slot.choose_at.Tie as tie
 
 add-choose : tie.Need-add-choose
-add-choose c = search needs
+add-choose c = let p = place-bounds (c .before .pre) in omega arith
 
 mul-choose : tie.Need-mul-choose
-mul-choose c = search needs
+mul-choose c = let p = place-bounds (c .before .pre) in omega arith
 
 sub-choose : tie.Need-sub-choose
 sub-choose c = search needs
@@ -19,15 +22,16 @@ part-choose-start : tie.Need-part-choose-start
 part-choose-start c = search needs
 
 part-choose-end : tie.Need-part-choose-end
-part-choose-end c = search needs
+part-choose-end c = let p = place-bounds (c .before .pre) in omega arith
 
 choose-requires : tie.Need-choose-requires
-choose-requires c κs = search needs
+choose-requires c κs = let p = place-bounds (c .before .before .pre) in (search needs, p .local-small)
 
 returns : tie.Need-returns
 returns c =
-    let a = c .before .before .before in
-    c .choose .ensures ∙ rw (span (a .args .base)) (part-choose _ (a .args .base) (a .pre .0) _ _ _)
+    let a = c .before .before .before .args in
+    let k = c .before .before .before .pre in
+    c .choose .ensures ∙ rw (span (a .place .base)) (part-choose (a .words .now) (a .place .base) (place-bounds k .whole) _ _ _) ∙ place-choice k
 
 pub choose-at-spec : {M : Type 1} → statement M
 choose-at-spec =

@@ -1,9 +1,11 @@
 -- `index::slot::put_record` meets its contract.
 -- Assumes nothing.
-use borrow.Author.Needs.{needs}
+use native.Mathlib.Omega.{arith}
 use Rattle.stores.proofs.Stores.{executed-append}
+use Rattle.layout.proofs.Places.{place-bounds}
 use Rattle.index.proofs.Answers.{answered-stores}
 use Rattle.index.proofs.Puts.{value-stored}
+use borrow.Author.Needs.{needs}
 use Rattle.index.proofs.slot.put_record.Statement.{statement}
 use Rattle.index.proofs.slot.put_record.Tie as tie
 
@@ -11,16 +13,19 @@ mul-key-at : tie.Need-mul-key-at
 mul-key-at c = search needs
 
 add-key-at : tie.Need-add-key-at
-add-key-at c = search needs
+add-key-at c = let p = place-bounds (c .before .before .pre .1) in omega (arith, c .before .before .pre .0)
 
 add-value-at : tie.Need-add-value-at
-add-value-at c = search needs
+add-value-at c = let p = place-bounds (c .before .before .pre .1) in omega (arith, c .before .before .pre .0)
 
 store-word-requires : tie.Need-store-word-requires
-store-word-requires c κs = search needs
+store-word-requires c κs = let p = place-bounds (c .before .before .before .pre .1) in (omega (arith, c .before .before .before .pre .0), omega arith)
 
 store-word-requires-2 : tie.Need-store-word-requires-2
-store-word-requires-2 c κs = search needs
+store-word-requires-2 c κs =
+    let p = place-bounds (c .before .before .before .before .before .before .before .pre .1) in
+    let kept = c .before .before .before .store-word .kept .0 in
+    (omega (arith, c .before .before .before .before .before .before .before .pre .0), omega (arith, c .before .before .before .store-word .ensures .count))
 
 after-stores-requires : tie.Need-after-stores-requires
 after-stores-requires c κs = search needs
@@ -31,8 +36,7 @@ same-length c = search needs
 returns : tie.Need-returns
 returns c =
     let first = value-stored _ _ _ _ _ _ _ _ (c .before .before .before .before .before .before .before .store-word .ensures) in
-    answered-stores _ _ _ _ _ _ (executed-append _ _ _ _ _ _ _ _ _ first (c .before .before .before .store-word2 .ensures))
-    (c .after-stores .ensures)
+    answered-stores _ _ _ _ _ _ (executed-append _ _ _ _ _ _ _ _ _ first (c .before .before .before .store-word2 .ensures)) (c .after-stores .ensures)
 
 pub put-record-spec : {M : Type 1} → statement M
 put-record-spec =

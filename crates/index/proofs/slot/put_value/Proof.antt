@@ -1,8 +1,10 @@
 -- `index::slot::put_value` meets its contract.
 -- Assumes nothing.
-use borrow.Author.Needs.{needs}
+use native.Mathlib.Omega.{arith}
+use Rattle.layout.proofs.Places.{place-bounds}
 use Rattle.index.proofs.Answers.{answered-stores}
 use Rattle.index.proofs.Puts.{value-stored}
+use borrow.Author.Needs.{needs}
 use Rattle.index.proofs.slot.put_value.Statement.{statement}
 use Rattle.index.proofs.slot.put_value.Tie as tie
 
@@ -10,13 +12,13 @@ mul-value-at : tie.Need-mul-value-at
 mul-value-at c = search needs
 
 add-value-at : tie.Need-add-value-at
-add-value-at c = search needs
+add-value-at c = let p = place-bounds (c .before .before .pre .1) in omega (arith, c .before .before .pre .0)
 
 add-value-at-2 : tie.Need-add-value-at-2
-add-value-at-2 c = search needs
+add-value-at-2 c = let p = place-bounds (c .before .before .pre .1) in omega (arith, c .before .before .pre .0)
 
 store-word-requires : tie.Need-store-word-requires
-store-word-requires c κs = search needs
+store-word-requires c κs = let p = place-bounds (c .before .before .before .pre .1) in (omega (arith, c .before .before .before .pre .0), omega arith)
 
 after-stores-requires : tie.Need-after-stores-requires
 after-stores-requires c κs = search needs

@@ -1,4 +1,4 @@
--- `index::place::clear_keys` meets its contract.
+-- `index::empty::clear_keys` meets its contract.
 -- Assumes nothing.
 use borrow.Author.Needs.{needs}
 use native.Mathlib.Omega.{arith}
@@ -11,8 +11,8 @@ use Rattle.stores.specs.Store.{Store, store}
 use Rattle.stores.specs.Executed.{Executed}
 use Rattle.rules.specs.Layout.{keyAddress}
 use Rattle.stores.proofs.Loops.{before-loop, after-turn, executed-length}
-use Rattle.index.proofs.place.clear_keys.Statement.{statement}
-use Rattle.index.proofs.place.clear_keys.Tie as tie
+use Rattle.index.proofs.empty.clear_keys.Statement.{statement}
+use Rattle.index.proofs.empty.clear_keys.Tie as tie
 
 -- The store for one slot.
 abbrev cleared : (base j : ℕ) → List Store
