@@ -1,5 +1,5 @@
--- Further states, by the test of the known states: damaged arrays, cuts, stale records, listings, and what else document 01's
--- sentences say and its table does not show.
+-- Further states, by the test of the known states, which antt computes: damaged arrays, cuts, stale records, listings, and what
+-- else document 01's sentences say and its table does not show.
 -- Assumes nothing.
 use Prim.Native.Nat.{ℕ, _+_, _*_}
 use mathlib.Core.Path.{_≡_, refl}

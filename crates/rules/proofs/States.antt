@@ -1,4 +1,4 @@
--- Document 01, 'Known index states', a to j: one table, one test, one proof.
+-- Document 01, 'Known index states', a to j: one table, one test, one proof. antt computes the test of each row.
 -- Assumes nothing.
 use Prim.Native.Nat.{ℕ, _+_, _*_}
 use mathlib.Core.Path.{_≡_, refl}

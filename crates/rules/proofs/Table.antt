@@ -1,4 +1,4 @@
--- A table of facts about the definitions, as data, and the test that a row passes. antt computes the test.
+-- A table of facts about the definitions, as data, and the test that a row passes.
 -- Assumes nothing.
 use Prim.Native.Nat.{ℕ, suc}
 use mathlib.Core.Bool.{Bool, true, false, _&&_}
