@@ -17,7 +17,7 @@ use Rattle.stores.proofs.Stores.{word-set-same, word-set-other}
 use Rattle.rules.specs.Layout.{wordsFor, entryAddress, segmentOf, localDepth, segmentAddress, keyAddress, valueAddress, keyAt, valueAt}
 use Rattle.rules.specs.Keys.{live, window}
 use Rattle.rules.specs.Slots.{hit}
-use Rattle.rules.proofs.Words.{Within, within-inside, key-within, value-within, entry-inside}
+use Rattle.rules.proofs.Words.{Within, within-inside, key-within, value-within, entry-inside, segments-disjoint}
 use Rattle.rules.proofs.Keys.{live-nonzero, live-empty, window-lt}
 use Rattle.rules.proofs.Blocks.{bitsAt}
 use Rattle.runs.specs.Map.{Map, updated}
@@ -35,15 +35,6 @@ unfolding updated
 updated-other m key v other n = rw (ne-eqb other key n)
 
 -- ---- One store in the segment of index i's block
-
-segments-disjoint : (d s t at : ℕ) → Within d s at → Within d t at → s ≡ t
-unfolding segmentAddress
-segments-disjoint d s t at v w =
-    let a = v .from in
-    let b = v .to in
-    let c = w .from in
-    let e = w .to in
-    omega arith
 
 module _ {m : Map} {g d S : ℕ} {f : ℕ → ℕ} {a : List ℕ} (inv : Inv m g d S f a) (i : ℕ) (below : i < 2 ^ g) where
   -- The store leaves word 0, the directory and the other segments as they were; what it leaves in its own is to be shown.

@@ -17,7 +17,7 @@ use Rattle.stores.proofs.Stores.{apply-append, length-apply, length-exec, word-
 use Rattle.rules.specs.Layout.{entryAddress, entryAt, segmentOf, localDepth, segmentAddress, keyAddress, valueAddress, keyAt, valueAt}
 use Rattle.rules.specs.Keys.{live, window}
 use Rattle.rules.specs.Split.{moves, copySlot, copying}
-use Rattle.rules.proofs.Words.{entry-inside, Within, within-inside, key-inside, value-inside}
+use Rattle.rules.proofs.Words.{entry-inside, Within, within-inside, key-inside, value-inside, segments-disjoint}
 use Rattle.rules.proofs.Keys.{live-nonzero, live-whole, live-split, window-lt}
 use Rattle.runs.specs.Map.{Map}
 use Rattle.history.proofs.Holds.{Holds, holds-same}
@@ -98,11 +98,6 @@ moves-live : (a : List ℕ) (from L bits j : ℕ) → moves a from L bits j ≡ 
 unfolding moves
 moves-live a from L bits j = sym (live-split L bits 1 (keyAt a from j) (omega arith))
 
--- No address lies in two segments.
-within-apart : (d s n at : ℕ) → Within d s at → Within d n at → s ≡ n
-unfolding segmentAddress
-within-apart d s n at p q = omega (arith, p .from, p .to, q .from, q .to)
-
 -- The stores of step 3 for index i's block.
 abbrev pub copies : (a : List ℕ) (g d : ℕ) → (ℕ → ℕ) → (i n : ℕ) → List Store
 copies a g d f i n = copying a (baseAt d f i) (segmentAddress d n) (localDepth (f i)) (bitsAt g f i)
@@ -126,7 +121,7 @@ module _ {m : Map} {g d S : ℕ} {f : ℕ → ℕ} {a : List ℕ} (inv : Inv m g
       (copying-within a (baseAt d f i) d n (localDepth (f i)) (bitsAt g f i))
 
   copies-segment : (t s : ℕ) → (s ≡ n → ⊥) → SegmentSame d s a (exec (copies a g d f i n) t a)
-  copies-segment t s u at w = copies-elsewhere t at (λ q. u (within-apart d s n at w q))
+  copies-segment t s u at w = copies-elsewhere t at (λ q. u (segments-disjoint d s n at w q))
 
   -- No address of a directory lies in the segment n.
   not-within : (at : ℕ) → at < 2 ^ suc d → Within d n at → ⊥

@@ -17,7 +17,7 @@ use Rattle.runs.specs.Map.{Map}
 use Rattle.history.proofs.Holds.{Holds}
 use Rattle.history.proofs.Invariant.{Shape, Directory, Inv, Recovered, LiveAt, baseAt, SegmentSame, Framed, inv-framed, recovered-lookups, shape-depth, shape-maxDepth, shape-segments, shape-valid, same-key, same-holds}
 use Rattle.history.proofs.Prefixes.{Kept, Always, always-whole, always-append, always-one, exec-elsewhere}
-use Rattle.rules.proofs.Doubling.{Entry, doubledEntries, doubled-entries, doubling-parts, doubled-word-0, Doubled, after-doubling}
+use Rattle.rules.proofs.Doubling.{DirectoryWord, doubledEntries, doubled-entries, doubling-parts, doubled-word-0, Doubled, after-doubling}
 
 -- No two blocks of the doubled directory share a segment.
 doubled-directory : {g S : ℕ} {f : ℕ → ℕ} → Directory g S f → Directory (suc g) S (doubledDirectory f)
@@ -98,9 +98,9 @@ module _ {m : Map} {g d S : ℕ} {f : ℕ → ℕ} {a : List ℕ} (inv : Inv m g
   -- ---- Under every allowance
 
   -- The stores before the last leave every address but those of the next directory.
-  entries-elsewhere : (n at : ℕ) → (Entry (suc g) at → ⊥) → word (exec (doubledEntries a) n a) at ≡ word a at
+  entries-elsewhere : (n at : ℕ) → (DirectoryWord (suc g) at → ⊥) → word (exec (doubledEntries a) n a) at ≡ word a at
   entries-elsewhere n at other =
-      exec-elsewhere (Entry (suc (depth a))) (doubledEntries a) n a at (doubled-entries a) (rw (shape-depth (inv .shape)) other)
+      exec-elsewhere (DirectoryWord (suc (depth a))) (doubledEntries a) n a at (doubled-entries a) (rw (shape-depth (inv .shape)) other)
 
   -- The stores before the last change nothing that the invariant sees.
   entries-framed : (n : ℕ) → Framed g d f a (exec (doubledEntries a) n a)

@@ -11,7 +11,7 @@ use borrow.Author.Tests.{not-true}
 use lib.ListN.{length, set}
 use Rattle.stores.specs.Store.{store, apply, exec}
 use Rattle.stores.specs.Plan.{Plan}
-use Rattle.stores.proofs.Lists.{first-some}
+use Rattle.stores.proofs.Lists.{first-some, some-none}
 use Rattle.stores.proofs.Stores.{exec-not-made, word-set-same}
 use Rattle.replies.specs.declared.Refusal.{Refusal}
 use Rattle.replies.specs.declared.Refusal.the-variants.{TooDeep, NoSegment}
@@ -164,7 +164,7 @@ module _ (key value : ℕ) where
   unfolding fed
   claims nonzero =
       record {
-        when-refused = λ a r e m g d S f inv same. absurd (none-some r (sym (inv-put-tests inv key nonzero same) ∙ e));
+        when-refused = λ a r e m g d S f inv same. absurd (some-none r (sym e ∙ inv-put-tests inv key nonzero same));
         when-found = λ a j ok c m g d S f inv same. put-found inv same nonzero j (choice-found a key j c);
         when-into = λ a j ok c m g d S f inv same.
             let at = choice-into a key j c in
@@ -177,9 +177,6 @@ module _ (key value : ℕ) where
             plan-after (puts key value) a (splitting a key n) _ (k .always)
             (again m (w .g) d S (w .f) (w .inv) (w .recovered));
       }
-    where
-      none-some : (r : Refusal) → none ≡ some r → ⊥
-      none-some r e = let z : _≡_ {A = ℕ} 0 1 = cc in omega arith
 
   pub put-kept : (key ≡ 0 → ⊥) → {m : Map} {g d S : ℕ} {f : ℕ → ℕ} (a : List ℕ) → Inv m g d S f a → Recovered g f a
       → PlanKept (puts key value) m d S (put a key value) a

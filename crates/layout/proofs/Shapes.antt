@@ -18,14 +18,14 @@ use Rattle.layout.specs.declared.header.Header.{Header}
 use Rattle.layout.specs.Headers.{headerOf, Describes}
 
 -- A valid shape, in numbers.
-pub record Shape (D S : ℕ) : Type 0 where
+pub record ShapeBounds (D S : ℕ) : Type 0 where
   pub depth-low : 2 ≤ D
   pub depth-high : D ≤ 12
   pub segments-low : 1 ≤ S
   pub segments-high : S ≤ 2 ^ D
   pub segments-4096 : S ≤ 4096
 
-pub shape : (D S : ℕ) → validShape D S ≡ true → Shape D S
+pub shape : (D S : ℕ) → validShape D S ≡ true → ShapeBounds D S
 unfolding validShape
 shape D S e =
     let lo : leb 2 D && leb D 12 ≡ true = and-left (leb 2 D && leb D 12) (leb 1 S && leb S (2 ^ D)) e in

@@ -27,7 +27,7 @@ abbrev pub doubledEntries : List ℕ → List Store
 doubledEntries a = each (λ e. store (entryAddress (suc (depth a)) e) (entryAt a (depth a) (e / 2)) ∷ []) (2 ^ suc (depth a))
 
 -- The address is of the directory of depth g.
-pub record Entry (g at : ℕ) : Type 0 where
+pub record DirectoryWord (g at : ℕ) : Type 0 where
   pub from : 2 ^ g ≤ at
   pub to : at < 2 ^ suc g
 
@@ -37,9 +37,9 @@ pub doubling-parts : (a : List ℕ)
 unfolding doubling
 doubling-parts a = refl
 
-pub doubled-entries : (a : List ℕ) → Every (λ s. Entry (suc (depth a)) (s .at)) (doubledEntries a)
+pub doubled-entries : (a : List ℕ) → Every (λ s. DirectoryWord (suc (depth a)) (s .at)) (doubledEntries a)
 doubled-entries a =
-    every-each (λ s. Entry (suc (depth a)) (s .at))
+    every-each (λ s. DirectoryWord (suc (depth a)) (s .at))
     (λ e. store (entryAddress (suc (depth a)) e) (entryAt a (depth a) (e / 2)) ∷ []) (2 ^ suc (depth a))
     (λ i h. (record { from = entry-from (suc (depth a)) i; to = entry-to (suc (depth a)) i h }, Prim.tt))
 
@@ -82,11 +82,11 @@ module _ (a : List ℕ) (v : ValidHeader a) (room : depth a < maxDepth a) where
       rw (doubling-parts a, apply-append (doubledEntries a) (store 0 (header (suc (depth a)) (maxDepth a) (segments a)) ∷ []) a)
       (word-set-other (apply (doubledEntries a) a) 0 i (header (suc (depth a)) (maxDepth a) (segments a)) (λ e. omega arith))
 
-  doubled-kept : (i : ℕ) → 1 ≤ i → (Entry (suc (depth a)) i → ⊥) → word (apply (doubling a) a) i ≡ word a i
+  doubled-kept : (i : ℕ) → 1 ≤ i → (DirectoryWord (suc (depth a)) i → ⊥) → word (apply (doubling a) a) i ≡ word a i
   doubled-kept i h k =
       doubled-word i h
       ∙ word-elsewhere (doubledEntries a) a i
-      (every-map (λ s. Entry (suc (depth a)) (s .at)) (λ s. s .at ≡ i → ⊥) (λ s x e. k (rw e at x)) (doubledEntries a) (doubled-entries a))
+      (every-map (λ s. DirectoryWord (suc (depth a)) (s .at)) (λ s. s .at ≡ i → ⊥) (λ s x e. k (rw e at x)) (doubledEntries a) (doubled-entries a))
 
   doubled-entry : (e : ℕ) → e < 2 ^ suc (depth a) → entryAt (apply (doubling a) a) (suc (depth a)) e ≡ entryAt a (depth a) (e / 2)
   doubled-entry e h =
@@ -141,5 +141,5 @@ doubling-in-range a room =
     let next : 2 ^ suc (suc (depth a)) ≤ W = next-directory a room in
     rw (doubling-parts a)
     (every-append (λ s. s .at < W) (doubledEntries a) (store 0 (header (suc (depth a)) (maxDepth a) (segments a)) ∷ [])
-    (every-map (λ s. Entry (suc (depth a)) (s .at)) (λ s. s .at < W) (λ s x. let t = x .to in omega arith) (doubledEntries a) (doubled-entries a))
+    (every-map (λ s. DirectoryWord (suc (depth a)) (s .at)) (λ s. s .at < W) (λ s x. let t = x .to in omega arith) (doubledEntries a) (doubled-entries a))
     (omega (arith, pow-pos (depth a)), Prim.tt))

@@ -22,7 +22,7 @@ use Rattle.rules.specs.Get.{keyEntry}
 use Rattle.rules.specs.Split.{moves, copySlot, copying, halfEntry, updating, halvingOf, halving}
 use Rattle.rules.proofs.Words.{ValidHeader, entry-inside, entry-positive, entry-inj, entry-from, entry-to, Within, Inside, key-within, value-within, within-inside, directories-below}
 use Rattle.rules.proofs.Keys.{bit-lt, index-suc, index-lt, index-shift, width-half, blockStart-bits, blockStart-le, in-block, block-end}
-use Rattle.rules.proofs.Doubling.{Entry, entry-of-key}
+use Rattle.rules.proofs.Doubling.{DirectoryWord, entry-of-key}
 
 -- ---- Copying
 
@@ -183,9 +183,9 @@ module _ (a : List ℕ) (key n : ℕ) (v : ValidHeader a) (f : n < segments a) w
     block-fits : keyStart a key + width (depth a) (localDepth (keyEntry a key)) ≤ 2 ^ depth a
     block-fits = block-end (depth a) (localDepth (keyEntry a key)) (index key (depth a)) l (index-lt key (depth a))
 
-    pub updates-entries : Every (λ x. Entry (depth a) (x .at)) (keyUpdates a key n)
+    pub updates-entries : Every (λ x. DirectoryWord (depth a) (x .at)) (keyUpdates a key n)
     updates-entries =
-        every-map (λ x. BlockEntry (depth a) (localDepth (keyEntry a key)) (keyStart a key) (x .at)) (λ x. Entry (depth a) (x .at))
+        every-map (λ x. BlockEntry (depth a) (localDepth (keyEntry a key)) (keyStart a key) (x .at)) (λ x. DirectoryWord (depth a) (x .at))
         (λ x e.
         let t = e .to in
         let h : e .number < 2 ^ depth a = omega (arith, block-fits) in
@@ -196,7 +196,7 @@ module _ (a : List ℕ) (key n : ℕ) (v : ValidHeader a) (f : n < segments a) w
     updates-in-range =
         let p : 2 ^ suc (depth a) ≤ 2 ^ suc (maxDepth a) = pow-mono {i = suc (depth a)} {j = suc (maxDepth a)} (let h = v .present in omega arith) in
         let q : 2 ^ suc (maxDepth a) ≤ wordsFor (maxDepth a) (segments a) = directories-below (maxDepth a) (segments a) in
-        every-map (λ x. Entry (depth a) (x .at)) (λ s. s .at < wordsFor (maxDepth a) (segments a)) (λ x e. let t = e .to in omega arith)
+        every-map (λ x. DirectoryWord (depth a) (x .at)) (λ s. s .at < wordsFor (maxDepth a) (segments a)) (λ x e. let t = e .to in omega arith)
         (keyUpdates a key n) updates-entries
 
     pub halving-in-range : Every (λ s. s .at < wordsFor (maxDepth a) (segments a)) (halving a key n)

@@ -39,7 +39,7 @@ use Rattle.rules.proofs.Words.{ValidHeader, valid-header, header-valid,
 use Rattle.rules.proofs.Keys.{index-lt, window-lt}
 use Rattle.rules.proofs.Scan.{range-segment, leader-le, valid-at-segment}
 use Rattle.rules.proofs.Put.{unless-none, Passed, passed, put-refused, put-found, put-into, put-too-deep, put-no-segment, put-again, Cases, put-induction}
-use Rattle.rules.proofs.Range.{hit-slot, Shape, ownShape}
+use Rattle.rules.proofs.Range.{hit-slot, Sizes, ownSizes}
 use Rattle.rules.proofs.Halving.{keyUpdates}
 use Rattle.rules.proofs.Split.{Ready, ready, Splittable, AfterSplit, after-split}
 
@@ -422,12 +422,12 @@ put-local {a} {b} s key value = put-induction key value (λ a p. (b : List ℕ) 
 
 -- What two arrays share for a call to do the same on both: the words that D and S take, and the length; for a format, the
 -- length alone.
-abbrev pub AlikeFor : (a b : List ℕ) → Option Shape → Type 0
+abbrev pub AlikeFor : (a b : List ℕ) → Option Sizes → Type 0
 AlikeFor a b none = Agree a b
 AlikeFor a b (some s) = length a ≡ length b
 
 abbrev pub Alike : (a b : List ℕ) → Call → Type 0
-Alike a b c = AlikeFor a b (ownShape c)
+Alike a b c = AlikeFor a b (ownSizes c)
 
 -- The outcomes x on the array a and y on the array b say the same, after as many stores, and leave the same word wherever
 -- a and b had the same.
@@ -442,7 +442,7 @@ carried-same (changes allowance p) a b l =
     record { reply = refl; made = refl; words = λ i h. apply-same (take allowance (p .due)) a b i l h }
 carried-same (answers s) a b l = record { reply = refl; made = refl; words = λ i h. h }
 
-alike-length : (a b : List ℕ) (s : Option Shape) → AlikeFor a b s → length a ≡ length b
+alike-length : (a b : List ℕ) (s : Option Sizes) → AlikeFor a b s → length a ≡ length b
 alike-length a b none s = s .length-same
 alike-length a b (some d) l = l
 
@@ -458,7 +458,7 @@ effect-local a b room ListCall s = ap answers (list-local s room)
 
 pub step-local : (a b : List ℕ) (room : ℕ) (c : Call) → Alike a b c → SameOutcome a b (step a room c) (step b room c)
 unfolding step
-step-local a b room c s = rw (effect-local a b room c s) (carried-same (effect b room c) a b (alike-length a b (ownShape c) s))
+step-local a b room c s = rw (effect-local a b room c s) (carried-same (effect b room c) a b (alike-length a b (ownSizes c) s))
 
 -- Only a call that lists looks at the length of the list array.
 pub effect-room : (a : List ℕ) (m n : ℕ) (c : Call) → lists c ≡ false → effect a m c ≡ effect a n c

@@ -13,7 +13,7 @@ use lib.Dec.{eqb}
 use Rattle.stores.specs.Lists.{each}
 use Rattle.stores.specs.Store.{store, apply}
 use Rattle.stores.specs.Plan.{Plan, reply-only, _then_}
-use Rattle.stores.proofs.Lists.{first-some, first-none}
+use Rattle.stores.proofs.Lists.{first-some, first-none, some-none}
 use Rattle.replies.specs.declared.Refusal.{Refusal}
 use Rattle.replies.specs.declared.Refusal.the-variants.{NoStore, NoKey, Broken, Unmended, TooDeep, NoSegment}
 use Rattle.rules.specs.Layout.{validHeader, depth, maxDepth, segments, segmentOf, localDepth, keyAddress, valueAddress}
@@ -32,9 +32,6 @@ use Rattle.rules.proofs.Halving.{keyBits}
 use Rattle.rules.proofs.Split.{Splittable, unused-falls}
 
 -- ---- The tests
-
-some-none : {A : Type 0} (x : A) → some x ≡ none → ⊥
-some-none x f = let z : _≡_ {A = ℕ} 0 1 = cc in omega arith
 
 -- All tests pass: this one does, and those after it do.
 pub unless-none : (t : Bool) (r : Refusal) (later : Option Refusal) → unless t r later ≡ none → (t ≡ true) × (later ≡ none)

@@ -40,7 +40,7 @@ use Rattle.rules.proofs.Put.{unless-none, passed, choice-found, choice-
 use Rattle.rules.proofs.Split.{splitting-in-range, AfterSplit, after-split}
 
 -- A pair of D and S.
-pub record Shape : Type 0 where
+pub record Sizes : Type 0 where
   pub D : ℕ
   pub S : ℕ
 
@@ -163,21 +163,21 @@ unfolding step
 step-length a room c = carried-length (effect a room c) a
 
 -- The D and S that a call brings with it: a format has some.
-abbrev pub ownShape : Call → Option Shape
-ownShape (Format D S allowance) = some (record { D = D; S = S })
-ownShape (Get key) = none
-ownShape (Put key value allowance) = none
-ownShape (Remove key allowance) = none
-ownShape (Mend allowance) = none
-ownShape ListCall = none
+abbrev pub ownSizes : Call → Option Sizes
+ownSizes (Format D S allowance) = some (record { D = D; S = S })
+ownSizes (Get key) = none
+ownSizes (Put key value allowance) = none
+ownSizes (Remove key allowance) = none
+ownSizes (Mend allowance) = none
+ownSizes ListCall = none
 
 -- The number of words that a call may touch, from word 0 on: those that its own D and S take, else those of word 0.
-abbrev pub extentOf : List ℕ → Option Shape → ℕ
+abbrev pub extentOf : List ℕ → Option Sizes → ℕ
 extentOf a none = wordsFor (maxDepth a) (segments a)
 extentOf a (some s) = wordsFor (s .D) (s .S)
 
 abbrev pub extent : List ℕ → Call → ℕ
-extent a c = extentOf a (ownShape c)
+extent a c = extentOf a (ownSizes c)
 
 -- The stores that are due by an effect.
 abbrev pub dueBy : Effect → List Store

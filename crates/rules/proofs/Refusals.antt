@@ -13,6 +13,7 @@ use lib.Dec.{ltb, eqb}
 use Rattle.stores.specs.Lists.{pick}
 use Rattle.stores.specs.Store.{apply}
 use Rattle.stores.specs.Plan.{Plan, Outcome}
+use Rattle.stores.proofs.Lists.{some-none}
 use Rattle.stores.proofs.Tests.{cases, pick-not}
 use Rattle.stores.proofs.Stores.{apply-append}
 use Rattle.rules.specs.Layout.{depthIn, depth, maxDepth, segments, entryAddress, entryAt, entry, segmentOf, localDepth}
@@ -194,13 +195,10 @@ module _ (a : List ℕ) (key n : ℕ) (ok : Passed a key) (s : Splittable a key 
 abbrev NotEarly : ℕ → List ℕ → Plan Said → Type 0
 NotEarly key a p = putTests a key ≡ none → (n : ℕ) → p .reply ≡ refused n → 4 < n
 
-none-some : (r : Refusal) → none ≡ some r → ⊥
-none-some r e = let z : _≡_ {A = ℕ} 0 1 = cc in omega arith
-
 not-early : (key value : ℕ) → Cases key value (NotEarly key)
 not-early key value =
     record {
-      when-refused = λ a r e ok n says. absurd (none-some r (sym ok ∙ e));
+      when-refused = λ a r e ok n says. absurd (some-none r (sym e ∙ ok));
       when-found = λ a j ok c t n says. absurd (refused-not-done n [] (sym says));
       when-into = λ a j ok c t n says. absurd (refused-not-done n [] (sym says));
       when-deep = λ a ok c d t n says. let e : 5 ≡ n = refused-inj says in omega arith;

@@ -172,6 +172,11 @@ pub record Within (D s at : ℕ) : Type 0 where
   pub from : segmentAddress D s ≤ at
   pub to : at < segmentAddress D s + 128
 
+-- No address lies in two segments.
+pub segments-disjoint : (D s t at : ℕ) → Within D s at → Within D t at → s ≡ t
+unfolding segmentAddress
+segments-disjoint D s t at v w = omega (arith, v .from, v .to, w .from, w .to)
+
 module _ (D s j : ℕ) (k : j < 64) where
   pub key-within : Within D s (keyAddress (segmentAddress D s) j)
   key-within = record { from = omega arith; to = omega arith }

@@ -111,7 +111,8 @@ pub first-here : (p : ℕ → Bool) (x : ℕ) (xs : List ℕ) → p x ≡ true �
 unfolding firstIn
 first-here p x xs e = rw e
 
-some-none : (x : ℕ) → some x ≡ none → ⊥
+-- Some value is not none.
+pub some-none : {A : Type 0} (x : A) → some x ≡ none → ⊥
 some-none x f = let z : _≡_ {A = ℕ} 0 1 = cc in omega arith
 
 -- Nothing in front passes: the search goes on behind it.

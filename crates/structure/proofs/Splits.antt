@@ -21,7 +21,7 @@ use Rattle.rules.specs.Get.{keyEntry}
 use Rattle.rules.specs.Split.{doubling, copying, updating, halving, doublingFor, splitting}
 use Rattle.rules.proofs.Words.{valid-header}
 use Rattle.rules.proofs.Keys.{index-shift, first-lt, block-end}
-use Rattle.rules.proofs.Doubling.{Entry, doubledEntries, doubling-parts, doubled-entries, Doubled, after-doubling}
+use Rattle.rules.proofs.Doubling.{DirectoryWord, doubledEntries, doubling-parts, doubled-entries, Doubled, after-doubling}
 use Rattle.rules.proofs.Halving.{halving-parts}
 use Rattle.rules.proofs.Bound.{length-doubling, length-copying}
 use Rattle.layout.specs.declared.place.Place.{Place}
@@ -138,7 +138,7 @@ module _ {p : Place} {n : ℕ} {a : List ℕ} (can : CanSplit p n a) where
         pow-mono {i = suc (suc (depth a))} {j = suc (maxDepth a)} (let r = doubling-room in omega arith) in
         rw (doubling-parts a)
         (every-append (λ s. s .at ≡ i → ⊥) (doubledEntries a) (store 0 (header (suc (depth a)) (maxDepth a) (segments a)) ∷ [])
-        (every-map (λ s. Entry (suc (depth a)) (s .at)) (λ s. s .at ≡ i → ⊥) (λ s x e. let t = x .to in omega arith) (doubledEntries a) (doubled-entries a))
+        (every-map (λ s. DirectoryWord (suc (depth a)) (s .at)) (λ s. s .at ≡ i → ⊥) (λ s x e. let t = x .to in omega arith) (doubledEntries a) (doubled-entries a))
         (λ e. omega (arith, pow-pos (maxDepth a)), Prim.tt))
 
     -- What is copied behind a doubling, whatever part of it was made.
