@@ -1,4 +1,4 @@
-// The desk program: reads a script from standard input, runs it, and writes its output.
+// The desk program.
 use desk_run::MOST_BYTES;
 use desk_run::OUTPUT_BYTES;
 use libc::STDIN_FILENO;
@@ -7,6 +7,7 @@ use libc::STDOUT_FILENO;
 // One byte more than a script may have: with it the script is known to be too long.
 const TEXT_BYTES: usize = MOST_BYTES + 1;
 
+// Reads the script, runs it, and writes what it gives.
 fn main() {
     let mut text = [0u8; TEXT_BYTES];
     let mut out = [0u8; OUTPUT_BYTES];

@@ -20,8 +20,8 @@ use Rattle.text.specs.Script.{NextLine}
 use Rattle.desk_text.specs.Output.{answerLine, otherLine, tooLongLine, lineRoom}
 use Rattle.text.proofs.Lines.{lines-none}
 use Rattle.desk_text.proofs.Texts.{length-answer}
-use Rattle.desk_run.specs.Run.{mostBytes, listWords, indexWords, ranCall, ranLines, ran, deskOutput}
-use Rattle.desk_run.specs.Progress.{LineRan, LinesRan, Onward, OutputWritten}
+use Rattle.desk_run.specs.Run.{mostBytes, listWords, indexWords, ranCall, ranLines, linesOutput, ran, deskOutput}
+use Rattle.desk_run.specs.Progress.{LineRan, LinesRan, NextRan, OutputWritten}
 
 -- ---- One line
 
@@ -56,33 +56,39 @@ module _ (script : List ℕ) (from start end : ℕ) (n : NextLine script from st
     next-room h = let more = rw one-more at h in omega arith
 
     pub next-ran : (at′ : ℕ) (a′ out′ : List ℕ) → LineRan (take (end - start) (drop start script)) room a at out at′ a′ out′
-        → LinesRan script from room a at out end at′ a′ out′ × Onward (length script) from end
+        → NextRan script from room a at out (record { next = end; written = at′ }) a′ out′
     unfolding ranLines
     next-ran at′ a′ out′ r =
-        let ordered : start ≤ end = n .ordered in (
-          record {
-            part = (ranCall room a (callOf (take (end - start) (drop start script)))) .text;
-            written = r .text;
-            text = rw (one-more, r .words);
-            room-left = rw one-more (omega (arith, r .short));
-          },
-          record { forward = λ h. omega (arith, some-byte, n .forward (omega arith)); within = n .within },
-        )
+        let ordered : start ≤ end = n .ordered in
+        record {
+          ran =
+              record {
+                part = (ranCall room a (callOf (take (end - start) (drop start script)))) .text;
+                written = r .text;
+                text = rw (one-more, r .words);
+                room-left = rw one-more (omega (arith, r .short));
+              };
+          forward = λ h. omega (arith, some-byte, n .forward (omega arith));
+          within = n .within;
+        }
 
   -- No line is left.
-  pub next-none : start ≡ end → LinesRan script from room a at out end at a out × Onward (length script) from end
+  pub next-none : start ≡ end → NextRan script from room a at out (record { next = end; written = at }) a out
   next-none same =
       let last : end ≡ length script = n .none-left same in
       let over : linesOf (drop end script) ≡ [] = rw (last, drop-length script) lines-none in
-      let none-more : linesOf (drop from script) ≡ [] = n .lines ∙ rw (le-ltb start end (omega arith)) in (
-        record {
-          part = [];
-          written = written-none at out;
-          text = rw (none-more, over);
-          room-left = rw (none-more, over) (omega arith);
-        },
-        record { forward = λ h. omega arith; within = n .within },
-      )
+      let none-more : linesOf (drop from script) ≡ [] = n .lines ∙ rw (le-ltb start end (omega arith)) in
+      record {
+        ran =
+            record {
+              part = [];
+              written = written-none at out;
+              text = rw (none-more, over);
+              room-left = rw (none-more, over) (omega arith);
+            };
+        forward = λ h. omega arith;
+        within = n .within;
+      }
 
 -- ---- Lines one behind the other
 
@@ -104,7 +110,7 @@ lines-more script from room a at out next at₁ a₁ out₁ next′ at₂ a₂ o
 
 -- All lines of the script have been run.
 pub lines-ended : (script : List ℕ) (room : ℕ) (a out : List ℕ) (next written : ℕ) (a′ out′ : List ℕ) → length script ≤ next
-    → LinesRan script 0 room a 0 out next written a′ out′ → Written ((ranLines room a (linesOf script)) .text) 0 out written out′
+    → LinesRan script 0 room a 0 out next written a′ out′ → Written (linesOutput room a script) 0 out written out′
 unfolding ranLines
 lines-ended script room a out next written a′ out′ over r =
     rw (r .text, drop-of-length-le script over, lines-none, append-nil (r .part)) (r .written)
@@ -119,7 +125,7 @@ module _ (script out : List ℕ) (written : ℕ) (out′ : List ℕ) where
   unfolding ran
   output-too-long many w = output-fits (rw (lt-leb (length script) mostBytes many, deskOutput) w)
 
-  pub output-lines : length script ≤ mostBytes → Written ((ranLines listWords (replicate indexWords 0) (linesOf script)) .text) 0 out written out′
+  pub output-lines : length script ≤ mostBytes → Written (linesOutput listWords (replicate indexWords 0) script) 0 out written out′
       → OutputWritten script out written out′
   unfolding ran
   output-lines few w = output-fits (rw (le-leb (length script) mostBytes few, deskOutput) w)

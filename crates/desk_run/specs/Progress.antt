@@ -8,6 +8,7 @@ use Rattle.stores.specs.Written.{Written}
 use Rattle.text.specs.Parts.{linesOf}
 use Rattle.desk_text.specs.Line.{callOf}
 use Rattle.desk_text.specs.Output.{lineRoom}
+use Rattle.desk_run.specs.declared.Progress.{Progress}
 use Rattle.desk_run.specs.Run.{ranCall, ranLines, deskOutput}
 
 -- One line has been run on the index array a, with a list array of `room` words: its text stands in the output from position
@@ -26,10 +27,11 @@ pub record LinesRan (script : List ℕ) (from room : ℕ) (a : List ℕ) (at : �
   -- Each line run has taken no more than its room.
   pub room-left : at′ + lineRoom * length (linesOf (drop next script)) ≤ at + lineRoom * length (linesOf (drop from script))
 
--- A step in a script of `size` bytes goes on from position `from` to position `next`.
-pub record Onward (size from next : ℕ) : Type 0 where
-  pub forward : from < size → from < next
-  pub within : next ≤ size
+-- The next line of the script from position `from` on has been run, if one is left, and the position has moved on.
+pub record NextRan (script : List ℕ) (from room : ℕ) (a : List ℕ) (at : ℕ) (out : List ℕ) (r : Progress) (a′ out′ : List ℕ) : Type 0 where
+  pub ran : LinesRan script from room a at out (r .next) (r .written) a′ out′
+  pub forward : from < length script → from < r .next
+  pub within : r .next ≤ length script
 
 -- The output of the desk program for the script stands in front: its bytes, and behind them what stood there before.
 pub record OutputWritten (script out : List ℕ) (written : ℕ) (out′ : List ℕ) : Type 0 where

@@ -42,6 +42,10 @@ ranLines room a (line ∷ lines) =
     let first : Ran = ranCall room a (callOf line) in
     followed first (ranLines room (first .words) lines)
 
+-- What the lines of a script write.
+abbrev pub linesOutput : (room : ℕ) → List ℕ → (script : List ℕ) → List ℕ
+linesOutput room a script = (ranLines room a (linesOf script)) .text
+
 -- A whole script; one of too many bytes gives the single line `!`, and nothing is run.
 unfoldable pub ran : (room : ℕ) → List ℕ → (script : List ℕ) → Ran
 ran room a script = pick (leb (length script) mostBytes) (ranLines room a (linesOf script)) (record { text = tooLongLine; words = a })

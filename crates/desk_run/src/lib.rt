@@ -1,18 +1,20 @@
 // A script run on an index: each line's call is made, and its answer written to the output.
+mod output;
+
 use desk_text::line::Line;
 use desk_text::line::read_line;
-use desk_text::output::LINE_ROOM;
-use desk_text::output::write_answer;
-use desk_text::output::write_other;
-use desk_text::output::write_too_long;
+use output::LINE_ROOM;
+use output::write_answer;
+use output::write_other;
+use output::write_too_long;
 use text::script::next_line;
 ghost use Prim.Native.Nat.{_+_, _*_, _≤_};
 ghost use lib.ListN.{length, drop};
 ghost use Rattle.stores.specs.Written.{Written};
 ghost use Rattle.text.specs.Parts.{linesOf};
 ghost use Rattle.desk_text.specs.Output.{lineRoom};
-ghost use Rattle.desk_run.specs.Run.{ranLines};
-ghost use Rattle.desk_run.specs.Progress.{LineRan, LinesRan, Onward, OutputWritten};
+ghost use Rattle.desk_run.specs.Run.{linesOutput};
+ghost use Rattle.desk_run.specs.Progress.{LineRan, NextRan, OutputWritten};
 
 // The most bytes of a script.
 pub const MOST_BYTES: usize = 16384;
@@ -53,7 +55,7 @@ fn run_next(
     at: usize,
 ) -> Progress
     requires { ⌜ at + lineRoom * length (linesOf (drop from (now script))) ≤ length (now out) ⌝ }
-    ensures { λ r. ⌜ LinesRan (now (script .entry)) from (length (now (list .entry))) (now (words .entry)) at (now (out .entry)) (r .next) (r .written) (now (words .exit)) (now (out .exit)) × Onward (length (now (script .entry))) from (r .next) ⌝ }
+    ensures { λ r. ⌜ NextRan (now (script .entry)) from (length (now (list .entry))) (now (words .entry)) at (now (out .entry)) r (now (words .exit)) (now (out .exit)) ⌝ }
 {
     let line = next_line(script, from);
     let start = line.start;
@@ -71,7 +73,7 @@ fn run_next(
 // Runs all lines of a script, and answers the number of bytes written.
 fn run_lines(script: &[u8], words: &mut [u64], list: &mut [u64], out: &mut [u8]) -> usize
     requires { ⌜ lineRoom * length (linesOf (now script)) ≤ length (now out) ⌝ }
-    ensures { λ r. ⌜ Written (ranLines (length (now (list .entry))) (now (words .entry)) (linesOf (now (script .entry))) .text) 0 (now (out .entry)) r (now (out .exit)) ⌝ }
+    ensures { λ r. ⌜ Written (linesOutput (length (now (list .entry))) (now (words .entry)) (now (script .entry))) 0 (now (out .entry)) r (now (out .exit)) ⌝ }
 {
     let mut next = 0;
     let mut written = 0;

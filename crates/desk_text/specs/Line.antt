@@ -41,6 +41,7 @@ pub record Spoken : Type 0 where
   pub letter : ℕ
   pub call : Call
 
+-- The call with its letter.
 abbrev pub spoken : ℕ → Call → Spoken
 spoken letter call = record { letter = letter; call = call }
 

@@ -1,3 +1,2 @@
-// The text of the desk program: the call of a line, the line of an answer.
+// The text of the desk program: the call of a line.
 pub mod line;
-pub mod output;

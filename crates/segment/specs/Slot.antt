@@ -5,6 +5,7 @@ use mathlib.Core.Path.{_≡_}
 use mathlib.Core.List.{List}
 use lib.ListN.{take, drop}
 use Rattle.stores.specs.Store.{Store}
+use Rattle.stores.specs.Executed.{Executed}
 use Rattle.rules.specs.Layout.{keyAt, valueAt}
 use Rattle.rules.specs.Split.{copySlot}
 use Rattle.layout.specs.declared.key.Block.{Block}
@@ -23,3 +24,8 @@ pub record SlotHolds (segment : List ℕ) (j : ℕ) (h : Held) : Type 0 where
 -- The stores of the copy step for slot j of the block's segment, in the new one.
 abbrev pub slotCopy : List ℕ → Block → (j : ℕ) → List Store
 slotCopy segment block j = copySlot segment 0 0 (block .«local_depth») (shared block) j
+
+-- These stores have come due in the new segment, for a slot that holds this in the old one.
+abbrev pub SlotCopied : Held → Block → (j allowed due : ℕ) (before : List ℕ) (due′ : ℕ) (after : List ℕ) → Type 0
+SlotCopied held block j allowed due before due′ after =
+    (segment : List ℕ) → SlotHolds segment j held → Executed (slotCopy segment block j) allowed due before due′ after

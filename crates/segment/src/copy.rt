@@ -5,14 +5,13 @@ use layout::SEGMENT_WORDS;
 use layout::SLOTS;
 use layout::key::Block;
 use stores::store_word;
-ghost use Prim.Native.Nat.{ℕ, _*_, _≤_, _<_};
+ghost use Prim.Native.Nat.{_*_, _≤_, _<_};
 ghost use mathlib.Core.Path.{_≡_};
-ghost use mathlib.Core.List.{List};
 ghost use lib.ListN.{length};
 ghost use Rattle.stores.specs.Executed.{Executed, dueLimit};
 ghost use Rattle.rules.specs.Split.{copying};
 ghost use Rattle.layout.specs.Blocks.{shared};
-ghost use Rattle.segment.specs.Slot.{SlotHolds, slotCopy};
+ghost use Rattle.segment.specs.Slot.{SlotCopied};
 
 // One slot of the copy step: a record that moves goes to the same slot of the new segment, value
 // before key, so that a cut between the two shows no record with another's value. In place of any
@@ -26,7 +25,7 @@ fn copy_slot(
     due: u32,
 ) -> u32
     requires { ⌜ (length (now «new_segment») ≡ 128) × (slot < 64) × (block .«local_depth» ≤ 12) × (due ≤ 2 * dueLimit) ⌝ }
-    ensures { λ r. ⌜ ((a : List ℕ) → SlotHolds a slot held → Executed (slotCopy a block slot) allowed due (now («new_segment» .entry)) r (now («new_segment» .exit))) ⌝ }
+    ensures { λ r. ⌜ SlotCopied held block slot allowed due (now («new_segment» .entry)) r (now («new_segment» .exit)) ⌝ }
 {
     let key = held.key;
     let value = held.value;

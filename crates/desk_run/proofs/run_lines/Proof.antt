@@ -31,13 +31,13 @@ run-next-requires c κs =
 
 loop-less : tie.Need-loop-less Inv-loop μ-loop
 loop-less c =
-    let onward = c .before .before .before .before .before .before .run-next .ensures .1 in
+    let onward = c .before .before .before .before .before .before .run-next .ensures in
     omega (arith, onward .forward (search needs), onward .within)
 
 loop-again : tie.Need-loop-again Inv-loop μ-loop
 loop-again c =
     let here = c .before .before .before .before .before .before .before .before .before .before .before .loop in
-    (search needs, search needs, search needs, lines-more _ _ _ _ _ _ _ _ _ _ _ _ _ _ (omega arith) (here .inv .3) (rw (here .inv .1) at (c .before .before .before .before .before .before .run-next .ensures .0)))
+    (search needs, search needs, search needs, lines-more _ _ _ _ _ _ _ _ _ _ _ _ _ _ (omega arith) (here .inv .3) (rw (here .inv .1) at (c .before .before .before .before .before .before .run-next .ensures .ran)))
 
 same-length : tie.Need-same-length Inv-loop μ-loop
 same-length c = search needs

@@ -1,10 +1,10 @@
--- `desk_text::output::write_mark` meets its contract.
+-- `desk_run::output::write_mark` meets its contract.
 -- Assumes nothing.
 use mathlib.Core.List.{[], _∷_}
 use borrow.Author.Needs.{needs}
 use Rattle.stores.proofs.Written.{written-append}
-use Rattle.desk_text.proofs.output.write_mark.Statement.{statement}
-use Rattle.desk_text.proofs.output.write_mark.Tie as tie
+use Rattle.desk_run.proofs.output.write_mark.Statement.{statement}
+use Rattle.desk_run.proofs.output.write_mark.Tie as tie
 
 write-byte-requires : tie.Need-write-byte-requires
 write-byte-requires c κs = search needs

@@ -1,8 +1,8 @@
--- `desk_text::output::write_other` meets its contract.
+-- `desk_run::output::write_other` meets its contract.
 -- Assumes nothing.
 use borrow.Author.Needs.{needs}
-use Rattle.desk_text.proofs.output.write_other.Statement.{statement}
-use Rattle.desk_text.proofs.output.write_other.Tie as tie
+use Rattle.desk_run.proofs.output.write_other.Statement.{statement}
+use Rattle.desk_run.proofs.output.write_other.Tie as tie
 
 write-mark-requires : tie.Need-write-mark-requires
 write-mark-requires c κs = search needs

@@ -1,12 +1,12 @@
--- `desk_text::output::write_head` meets its contract.
+-- `desk_run::output::write_head` meets its contract.
 -- Assumes nothing.
 use mathlib.Core.List.{[], _∷_}
 use borrow.Author.Needs.{needs}
 use Rattle.stores.proofs.Written.{written-append}
 use Rattle.replies.specs.Replies.{saidBy}
 use Rattle.desk_text.specs.Output.{replyText}
-use Rattle.desk_text.proofs.output.write_head.Statement.{statement}
-use Rattle.desk_text.proofs.output.write_head.Tie as tie
+use Rattle.desk_run.proofs.output.write_head.Statement.{statement}
+use Rattle.desk_run.proofs.output.write_head.Tie as tie
 
 write-byte-requires : tie.Need-write-byte-requires
 write-byte-requires c κs = search needs

@@ -1,8 +1,8 @@
--- `desk_text::output::write_too_long` meets its contract.
+-- `desk_run::output::write_too_long` meets its contract.
 -- Assumes nothing.
 use borrow.Author.Needs.{needs}
-use Rattle.desk_text.proofs.output.write_too_long.Statement.{statement}
-use Rattle.desk_text.proofs.output.write_too_long.Tie as tie
+use Rattle.desk_run.proofs.output.write_too_long.Statement.{statement}
+use Rattle.desk_run.proofs.output.write_too_long.Tie as tie
 
 write-mark-requires : tie.Need-write-mark-requires
 write-mark-requires c κs = search needs

@@ -13,10 +13,10 @@ ghost use lib.ListN.{length};
 ghost use Rattle.stores.specs.Written.{Written};
 ghost use Rattle.replies.specs.Replies.{saidBy};
 ghost use Rattle.text.specs.Parts.{lineFeed};
 ghost use Rattle.desk_text.specs.Output.{replyText, headText, endText, answerLine, otherLine, tooLongLine, lineRoom};
 
 // The bytes of room for the longest line.
-pub const LINE_ROOM: usize = 48;
+pub(crate) const LINE_ROOM: usize = 48;
 
 // Writes a reply: 0 for done, `-` for absent, or the number of the refusal, which has two digits
 // at most.
@@ -64,7 +64,7 @@ fn write_mark(byte: u8, out: &mut [u8], at: usize) -> usize
 }
 
 // Writes the line of an answer from position `at` on, and answers the position behind it.
-pub fn write_answer(letter: u8, answer: Answer, out: &mut [u8], at: usize) -> usize
+pub(crate) fn write_answer(letter: u8, answer: Answer, out: &mut [u8], at: usize) -> usize
     requires { ⌜ at + lineRoom ≤ length (now out) ⌝ }
     ensures { λ r. ⌜ Written (answerLine letter (saidBy (answer .reply)) (answer .stores)) at (now (out .entry)) r (now (out .exit)) ⌝ }
 {
@@ -76,7 +76,7 @@ pub fn write_answer(letter: u8, answer: Answer, out: &mut [u8], at: usize) -> us
 }
 
 // Writes the line for a line that is no call, in the same way.
-pub fn write_other(out: &mut [u8], at: usize) -> usize
+pub(crate) fn write_other(out: &mut [u8], at: usize) -> usize
     requires { ⌜ at + lineRoom ≤ length (now out) ⌝ }
     ensures { λ r. ⌜ Written otherLine at (now (out .entry)) r (now (out .exit)) ⌝ }
 {
@@ -84,7 +84,7 @@ pub fn write_other(out: &mut [u8], at: usize) -> usize
 }
 
 // Writes the line for a script of too many bytes, in the same way.
-pub fn write_too_long(out: &mut [u8], at: usize) -> usize
+pub(crate) fn write_too_long(out: &mut [u8], at: usize) -> usize
     requires { ⌜ at + lineRoom ≤ length (now out) ⌝ }
     ensures { λ r. ⌜ Written tooLongLine at (now (out .entry)) r (now (out .exit)) ⌝ }
 {

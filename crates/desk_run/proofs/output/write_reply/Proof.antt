@@ -1,13 +1,13 @@
--- `desk_text::output::write_reply` meets its contract.
+-- `desk_run::output::write_reply` meets its contract.
 -- Assumes nothing.
 use Prim.Native.Nat.{_≤_}
 use lib.ListN.{length}
 use native.Mathlib.Omega.{arith}
 use borrow.Author.Needs.{needs}
 use Rattle.text.specs.Number.{decimal}
 use Rattle.desk_text.proofs.Texts.{length-refusal}
-use Rattle.desk_text.proofs.output.write_reply.Statement.{statement}
-use Rattle.desk_text.proofs.output.write_reply.Tie as tie
+use Rattle.desk_run.proofs.output.write_reply.Statement.{statement}
+use Rattle.desk_run.proofs.output.write_reply.Tie as tie
 
 enum-told : tie.Need-enum-told
 enum-told c = search needs

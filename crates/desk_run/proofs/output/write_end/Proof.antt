@@ -1,4 +1,4 @@
--- `desk_text::output::write_end` meets its contract.
+-- `desk_run::output::write_end` meets its contract.
 -- Assumes nothing.
 use mathlib.Core.List.{[], _∷_}
 use native.Mathlib.Omega.{arith}
@@ -6,9 +6,9 @@ use borrow.Author.Needs.{needs}
 use Rattle.stores.proofs.Written.{written-append}
 use Rattle.text.specs.Number.{decimal}
 use Rattle.text.proofs.Digits.{length-decimal}
 use Rattle.desk_text.proofs.Texts.{end-value, end-plain}
-use Rattle.desk_text.proofs.output.write_end.Statement.{statement}
-use Rattle.desk_text.proofs.output.write_end.Tie as tie
+use Rattle.desk_run.proofs.output.write_end.Statement.{statement}
+use Rattle.desk_run.proofs.output.write_end.Tie as tie
 
 enum-known-reply : tie.Need-enum-known-reply
 enum-known-reply c = search needs

@@ -1,4 +1,4 @@
--- `desk_text::output::write_answer` meets its contract.
+-- `desk_run::output::write_answer` meets its contract.
 -- Assumes nothing.
 use Prim.Native.Nat.{_+_}
 use mathlib.Core.List.{[], _∷_, _++_}
@@ -9,11 +9,11 @@ use Rattle.stores.proofs.Written.{written-append}
 use Rattle.replies.specs.Replies.{saidBy}
 use Rattle.text.specs.Parts.{tab, lineFeed}
 use Rattle.text.specs.Number.{decimal}
 use Rattle.desk_text.specs.Output.{headText, saidText, endText, answerLine}
 use Rattle.text.proofs.Digits.{length-decimal}
 use Rattle.desk_text.proofs.Texts.{length-reply}
-use Rattle.desk_text.proofs.output.write_answer.Statement.{statement}
-use Rattle.desk_text.proofs.output.write_answer.Tie as tie
+use Rattle.desk_run.proofs.output.write_answer.Statement.{statement}
+use Rattle.desk_run.proofs.output.write_answer.Tie as tie
 
 cast-stores : tie.Need-cast-stores
 cast-stores c = search needs
