@@ -23,7 +23,8 @@ pub(crate) fn place_to_read(words: &[u64], key: u64) -> Placed
     place_of(words, header, key)
 }
 
-// For put and remove: 1, 2, and 3 and 4 for the whole directory.
+// For put and remove: 1, 2, and 3 and 4 for the whole directory. The place is read before the scan, so
+// that the scan's loop has the registers to itself.
 pub(crate) fn place_to_change(words: &[u64], key: u64) -> Placed
     ensures { λ r. ⌜ PlacedBy r (now (words .entry)) key (putTests (now (words .entry)) key) ⌝ }
 {
@@ -33,9 +34,10 @@ pub(crate) fn place_to_change(words: &[u64], key: u64) -> Placed
     if key == 0 {
         return Placed::Refused(Refusal::NoKey);
     }
+    let placed = place_of(words, header, key);
     match scan(words, header) {
         Verdict::Broken => Placed::Refused(Refusal::Broken),
         Verdict::Unmended => Placed::Refused(Refusal::Unmended),
-        Verdict::Consistent => place_of(words, header, key),
+        Verdict::Consistent => placed,
     }
 }

@@ -24,8 +24,11 @@ returns-2 c =
     let d = header-valid _ _ (c .before .before .before .before .read-header .ensures) _ (c .before .before .header .given .1) in
     change-no-key _ _ (d .valid) (c .if1 .taken)
 
+place-of-requires : tie.Need-place-of-requires
+place-of-requires c κs = header-valid _ _ (c .before .before .before .before .read-header .ensures) _ (c .before .before .header .given .1)
+
 scan-requires : tie.Need-scan-requires
-scan-requires c κs = header-valid _ _ (c .before .before .before .before .read-header .ensures) _ (c .before .before .header .given .1)
+scan-requires c κs = header-valid _ _ (c .before .before .before .before .before .read-header .ensures) _ (c .before .before .before .header .given .1)
 
 enum-told-2 : tie.Need-enum-told-2
 enum-told-2 c = search needs
@@ -36,24 +39,23 @@ enum-told-3 c = search needs
 enum-told-4 : tie.Need-enum-told-4
 enum-told-4 c = search needs
 
-place-of-requires : tie.Need-place-of-requires
-place-of-requires c κs = header-valid _ _ (c .before .before .before .before .before .before .before .read-header .ensures) _ (c .before .before .before .before .before .header .given .1)
-
 returns-3 : tie.Need-returns-3
 returns-3 c =
-    let d = header-valid _ _ (c .before .before .before .before .before .before .before .read-header .ensures) _ (c .before .before .before .before .before .header .given .1) in
-    change-directory-decides _ _ (d .valid) (c .before .before .before .if1 .left) ∙ rw (c .enum-told2 .given .1) at (sym (c .before .before .scan .ensures))
+    let d = header-valid _ _ (c .before .before .before .before .before .before .before .before .read-header .ensures) _ (c .before .before .before .before .before .before .header .given .1) in
+    let t = change-directory-decides _ _ (d .valid) (c .before .before .before .before .if1 .left) ∙ rw (c .enum-told2 .given .1) at (sym (c .before .before .scan .ensures)) in
+    t
 
 returns-4 : tie.Need-returns-4
 returns-4 c =
-    let d = header-valid _ _ (c .before .before .before .before .before .before .before .read-header .ensures) _ (c .before .before .before .before .before .header .given .1) in
-    change-directory-decides _ _ (d .valid) (c .before .before .before .if1 .left) ∙ rw (c .enum-told3 .given .1) at (sym (c .before .before .scan .ensures))
+    let d = header-valid _ _ (c .before .before .before .before .before .before .before .before .read-header .ensures) _ (c .before .before .before .before .before .before .header .given .1) in
+    let t = change-directory-decides _ _ (d .valid) (c .before .before .before .before .if1 .left) ∙ rw (c .enum-told3 .given .1) at (sym (c .before .before .scan .ensures)) in
+    t
 
 returns-5 : tie.Need-returns-5
 returns-5 c =
     let d = header-valid _ _ (c .before .before .before .before .before .before .before .before .read-header .ensures) _ (c .before .before .before .before .before .before .header .given .1) in
-    let t = change-directory-decides _ _ (d .valid) (c .before .before .before .before .if1 .left) ∙ rw (c .before .enum-told4 .given .1) at (sym (c .before .before .before .scan .ensures)) in
-    rw (change-entry _ _ t) (c .place-of .ensures)
+    let t = change-directory-decides _ _ (d .valid) (c .before .before .before .before .if1 .left) ∙ rw (c .enum-told4 .given .1) at (sym (c .before .before .scan .ensures)) in
+    rw (change-entry _ _ t) (c .before .before .before .place-of .ensures)
 
 pub place-to-change-spec : {M : Type 1} → statement M
 place-to-change-spec =
@@ -64,11 +66,11 @@ place-to-change-spec =
     enum-told
     returns
     returns-2
+    place-of-requires
     scan-requires
     enum-told-2
     enum-told-3
     enum-told-4
-    place-of-requires
     returns-3
     returns-4
     returns-5)
