@@ -1,15 +1,17 @@
 // One call made on the index and on the model, each with an array of its own, and compared: reply,
-// number of stores, value, and every word. The answers are of the index, in the model's numbers.
+// number of stores, value, every word, and the list array. The answers are of the index, in the model's
+// numbers.
 use crate::arrays::Arrays;
 use crate::arrays::INDEX;
 use crate::arrays::MODEL;
-use crate::front;
+use crate::arrays::TALLY;
 use crate::lists::LIST_FILL;
-use crate::lists::is_same_list;
+use crate::lists::is_list_of;
 use crate::tally::CALLS;
 use crate::tally::CUT_CALLS;
 use crate::tally::FORMAT;
 use crate::tally::GET;
+use crate::tally::LENT;
 use crate::tally::LIST;
 use crate::tally::MEND;
 use crate::tally::PUT;
@@ -18,26 +20,89 @@ use crate::tally::STORES;
 use crate::tally::count;
 use crate::tally::count_reply;
 use crate::tally::expect;
-use crate::tally::lent;
 use index_model::ABSENT;
+use index_model::BAD_SHAPE;
+use index_model::BROKEN;
 use index_model::CUT_OFF;
+use index_model::Call;
 use index_model::DONE;
+use index_model::NO_KEY;
+use index_model::NO_SEGMENT;
+use index_model::NO_STORE;
 use index_model::Outcome;
+use index_model::SHORT_LIST;
+use index_model::TOO_DEEP;
+use index_model::TOO_SHORT;
+use index_model::UNMENDED;
+use index_model::listing::records;
 use index_model::words::CELLS;
+use index_model::words::WORDS;
+use index_model::words::word_at;
 use replies::Answer;
-use replies::Refusal;
 use replies::Reply;
 use replies::refusal_number;
 ghost use Prim.Native.Nat.{_≤_};
-ghost use Rattle.index_compare.specs.Counts.{Apart};
 
 // An allowance that cuts no call off.
 pub const ALL_STORES: u32 = 4294967295;
 
-// An answer of the index in the model's numbers.
-fn said_by(answer: Answer) -> Outcome
-    ensures { λ r. ⌜ r .reply ≤ 11 ⌝ }
+// The column of a call.
+fn column_of(call: Call) -> usize {
+    match call {
+        Call::Format(_, _, _) => FORMAT,
+        Call::Get(_) => GET,
+        Call::Put(_, _, _) => PUT,
+        Call::Remove(_, _) => REMOVE,
+        Call::Mend(_) => MEND,
+        Call::List(_) => LIST,
+    }
+}
+
+// At most the words that an array has.
+fn within(length: usize, most: usize) -> usize
+    ensures { λ r. ⌜ r ≤ most ⌝ }
 {
+    if length < most {
+        return length;
+    }
+    most
+}
+
+// The call for the index.
+fn request_of(call: Call) -> rules::Call {
+    match call {
+        Call::Format(depth, segments, allowance) => rules::Call::Format {
+            depth,
+            segments,
+            allowance,
+        },
+        Call::Get(key) => rules::Call::Get { key },
+        Call::Put(key, value, allowance) => rules::Call::Put {
+            key,
+            value,
+            allowance,
+        },
+        Call::Remove(key, allowance) => rules::Call::Remove { key, allowance },
+        Call::Mend(allowance) => rules::Call::Mend { allowance },
+        Call::List(_) => rules::Call::List,
+    }
+}
+
+// A call of the index on the first words of an array, with an empty list array.
+fn made_on(words: &mut [u64], length: usize, call: Call) -> Answer {
+    let end = within(length, words.len());
+    index::perform(&mut words[..end], &mut [], request_of(call))
+}
+
+// A list of the first words of an array into the first words of a list array.
+fn listed_on(words: &[u64], length: usize, list: &mut [u64], room: usize) -> Answer {
+    let end = within(length, words.len());
+    let list_end = within(room, list.len());
+    index::list(&words[..end], &mut list[..list_end])
+}
+
+// An answer of the index in the model's numbers.
+fn said_by(answer: Answer) -> Outcome {
     let stores = answer.stores;
     let reply = answer.reply;
     match reply {
@@ -64,19 +129,22 @@ fn said_by(answer: Answer) -> Outcome
     }
 }
 
+// Makes a call of the index on the first words of an array. Nobody compares or counts it.
+pub fn make(words: &mut [u64], length: usize, call: Call) -> Outcome {
+    said_by(made_on(words, length, call))
+}
+
 // Whether document 01 allows the call this refusal, by its table of refusals.
-fn may_refuse(call: usize, refusal: Refusal) -> bool {
+fn may_refuse(call: usize, refusal: u32) -> bool {
     match refusal {
-        Refusal::NoStore => call != FORMAT,
-        Refusal::NoKey => call == GET || call == PUT || call == REMOVE,
-        Refusal::Broken => call != FORMAT,
-        Refusal::Unmended => call == PUT || call == REMOVE || call == LIST,
-        Refusal::TooDeep => call == PUT,
-        Refusal::NoSegment => call == PUT,
-        Refusal::CutOff => call != GET && call != LIST,
-        Refusal::BadShape => call == FORMAT,
-        Refusal::TooShort => call == FORMAT,
-        Refusal::ShortList => call == LIST,
+        NO_STORE | BROKEN => call != FORMAT,
+        NO_KEY => call == GET || call == PUT || call == REMOVE,
+        UNMENDED => call == PUT || call == REMOVE || call == LIST,
+        TOO_DEEP | NO_SEGMENT => call == PUT,
+        CUT_OFF => call != GET && call != LIST,
+        BAD_SHAPE | TOO_SHORT => call == FORMAT,
+        SHORT_LIST => call == LIST,
+        _ => false,
     }
 }
 
@@ -86,30 +154,24 @@ fn may_say(call: usize, reply: Reply) -> bool {
         Reply::Done => call != GET && call != LIST,
         Reply::Value(_) => call == GET || call == LIST,
         Reply::Absent => call == GET || call == REMOVE,
-        Reply::Refused(refusal) => may_refuse(call, refusal),
+        Reply::Refused(refusal) => may_refuse(call, refusal_number(refusal)),
     }
 }
 
 // Whether the index said what the model said, and something that the call may say.
 fn agrees(call: usize, answer: Answer, outcome: Outcome) -> bool {
     let said = said_by(answer);
-    if said.reply != outcome.reply {
-        return false;
-    }
-    if said.stores != outcome.stores {
-        return false;
-    }
-    if said.value != outcome.value {
-        return false;
-    }
     let reply = answer.reply;
-    may_say(call, reply)
+    said.reply == outcome.reply
+        && said.stores == outcome.stores
+        && said.value == outcome.value
+        && may_say(call, reply)
 }
 
 // Whether the two arrays have the same words, those that are not lent too.
 fn is_same(arrays: &Arrays) -> bool {
-    for i in 0..CELLS {
-        if arrays[INDEX][i] != arrays[MODEL][i] {
+    for at in 0..WORDS {
+        if word_at(&arrays[INDEX], at) != word_at(&arrays[MODEL], at) {
             return false;
         }
     }
@@ -117,91 +179,51 @@ fn is_same(arrays: &Arrays) -> bool {
 }
 
 // Counts a call of the index, its stores and its reply.
-pub fn count_call(arrays: &mut Arrays, call: usize, answer: Answer) -> Outcome
-    ensures { λ r. ⌜ (r .reply ≤ 11) × Apart (now (arrays .entry)) (now (arrays .exit)) ⌝ }
-{
-    let said = said_by(answer);
+pub fn count_call(arrays: &mut Arrays, call: Call, said: Outcome) {
     count(arrays, CALLS, 1);
     count(arrays, STORES, said.stores as u64);
-    count_reply(arrays, call, said.reply);
+    count_reply(arrays, column_of(call), said.reply);
     if said.reply == CUT_OFF {
         count(arrays, CUT_CALLS, 1);
     }
+}
+
+// Compares a call that was made on both, and counts it; `is_listed` says whether it left the right list.
+fn judge(
+    arrays: &mut Arrays,
+    call: Call,
+    answer: Answer,
+    outcome: Outcome,
+    is_listed: bool,
+) -> Outcome {
+    let is_right = is_listed && is_same(arrays) && agrees(column_of(call), answer, outcome);
+    expect(arrays, is_right);
+    let said = said_by(answer);
+    count_call(arrays, call, said);
     said
 }
 
-// Counts a call, and compares: whether its arrays came out the same, and whether the answers agree.
-fn judge(arrays: &mut Arrays, call: usize, answer: Answer, outcome: Outcome, same: bool) -> Outcome
-    ensures { λ r. ⌜ (r .reply ≤ 11) × Apart (now (arrays .entry)) (now (arrays .exit)) ⌝ }
-{
-    let agreed = agrees(call, answer, outcome);
-    expect(arrays, same && agreed);
-    count_call(arrays, call, answer)
+// Makes a list on both, with `room` words of a list array.
+fn compare_list(arrays: &mut Arrays, room: usize) -> Outcome {
+    let mut list = [LIST_FILL; CELLS];
+    let mut due = [0u64; CELLS];
+    let length = arrays[TALLY][LENT] as usize;
+    let answer = listed_on(&arrays[INDEX], length, &mut list, room);
+    let outcome = index_model::perform(&mut arrays[MODEL], length, Call::List(room));
+    if outcome.reply == DONE {
+        due = records(&arrays[MODEL], length);
+    }
+    let is_listed = is_list_of(&list, &mut due);
+    judge(arrays, Call::List(room), answer, outcome, is_listed)
 }
 
-// A format on both.
-pub fn compare_format(arrays: &mut Arrays, max_depth: u64, segments: u64, allowance: u32) -> Outcome
-    ensures { λ r. ⌜ (r .reply ≤ 11) × Apart (now (arrays .entry)) (now (arrays .exit)) ⌝ }
-{
-    let length = lent(arrays);
-    let answer = front::format(&mut arrays[INDEX], length, max_depth, segments, allowance);
-    let outcome = index_model::format(&mut arrays[MODEL], length, max_depth, segments, allowance);
-    let same = is_same(arrays);
-    judge(arrays, FORMAT, answer, outcome, same)
-}
-
-// A get on both.
-pub fn compare_get(arrays: &mut Arrays, key: u64) -> Outcome
-    ensures { λ r. ⌜ (r .reply ≤ 11) × Apart (now (arrays .entry)) (now (arrays .exit)) ⌝ }
-{
-    let length = lent(arrays);
-    let answer = front::get(&arrays[INDEX], length, key);
-    let outcome = index_model::get(&arrays[MODEL], length, key);
-    let same = is_same(arrays);
-    judge(arrays, GET, answer, outcome, same)
-}
-
-// A put on both.
-pub fn compare_put(arrays: &mut Arrays, key: u64, value: u64, allowance: u32) -> Outcome
-    ensures { λ r. ⌜ (r .reply ≤ 11) × Apart (now (arrays .entry)) (now (arrays .exit)) ⌝ }
-{
-    let length = lent(arrays);
-    let answer = front::put(&mut arrays[INDEX], length, key, value, allowance);
-    let outcome = index_model::put(&mut arrays[MODEL], length, key, value, allowance);
-    let same = is_same(arrays);
-    judge(arrays, PUT, answer, outcome, same)
-}
-
-// A remove on both.
-pub fn compare_remove(arrays: &mut Arrays, key: u64, allowance: u32) -> Outcome
-    ensures { λ r. ⌜ (r .reply ≤ 11) × Apart (now (arrays .entry)) (now (arrays .exit)) ⌝ }
-{
-    let length = lent(arrays);
-    let answer = front::remove(&mut arrays[INDEX], length, key, allowance);
-    let outcome = index_model::remove(&mut arrays[MODEL], length, key, allowance);
-    let same = is_same(arrays);
-    judge(arrays, REMOVE, answer, outcome, same)
-}
-
-// A mend on both.
-pub fn compare_mend(arrays: &mut Arrays, allowance: u32) -> Outcome
-    ensures { λ r. ⌜ (r .reply ≤ 11) × Apart (now (arrays .entry)) (now (arrays .exit)) ⌝ }
-{
-    let length = lent(arrays);
-    let answer = front::mend(&mut arrays[INDEX], length, allowance);
-    let outcome = index_model::mend(&mut arrays[MODEL], length, allowance);
-    let same = is_same(arrays);
-    judge(arrays, MEND, answer, outcome, same)
-}
-
-// A list on both, with `room` words of a list array.
-pub fn compare_list(arrays: &mut Arrays, room: usize) -> Outcome
-    ensures { λ r. ⌜ (r .reply ≤ 11) × Apart (now (arrays .entry)) (now (arrays .exit)) ⌝ }
-{
-    let mut lists = [[LIST_FILL; CELLS]; 3];
-    let length = lent(arrays);
-    let answer = front::list(&arrays[INDEX], length, &mut lists[INDEX], room);
-    let outcome = index_model::list(&arrays[MODEL], length, &mut lists[MODEL], room);
-    let same = is_same(arrays) && is_same_list(&mut lists, outcome.value as usize);
-    judge(arrays, LIST, answer, outcome, same)
+// Makes a call on both, and compares and counts it.
+pub fn compare(arrays: &mut Arrays, call: Call) -> Outcome {
+    if let Call::List(room) = call {
+        return compare_list(arrays, room);
+    }
+    let length = arrays[TALLY][LENT] as usize;
+    let answer = made_on(&mut arrays[INDEX], length, call);
+    let outcome = index_model::perform(&mut arrays[MODEL], length, call);
+    judge(arrays, call, answer, outcome, true)
 }

@@ -1,107 +1,77 @@
-// The state of the test, in an array of its own: the family at work, how many words of the arrays are
-// lent to a call, and the counts: for each family cases, calls and so on, and for each call how often
-// each reply came.
+// The counts of a test program, in an array of its own, as lines of six numbers: line 0 has cases, calls
+// and so on; the lines behind it say how often each reply came, with a number for each call. Behind the
+// lines stands how many words of the arrays are lent to a call.
 use crate::arrays::Arrays;
 use crate::arrays::TALLY;
+use index_model::ABSENT;
 use std::num::wrapping_add_u64;
-ghost use mathlib.Core.Path.{_≡_};
-ghost use Prim.Native.Nat.{_+_, _*_, _%_, _<_};
-ghost use mathlib.Core.Bool.{true, false};
-ghost use Rattle.index_compare.specs.Counts.{setCount, added, columnAt};
 
-// Where the family at work stands, the words lent, and the columns of the first family.
-pub const FAMILY: usize = 0;
+// The numbers of a line.
+pub(crate) const COLUMNS: usize = 6;
 
-const LENT: usize = 1;
+// The columns of line 0.
+pub(crate) const CASES: usize = 0;
 
-pub const FIRST_COLUMN: usize = 2;
+pub(crate) const CALLS: usize = 1;
 
-// The columns of a family.
-pub const CASES: usize = 0;
+pub(crate) const CUT_CALLS: usize = 2;
 
-pub const CALLS: usize = 1;
-
-pub const CUT_CALLS: usize = 2;
-
-pub const STORES: usize = 3;
+pub(crate) const STORES: usize = 3;
 
 pub const LOOKUPS: usize = 4;
 
-pub const DIFFERENCES: usize = 5;
+pub(crate) const DIFFERENCES: usize = 5;
 
-pub const COLUMNS: usize = 8;
+// The columns of the lines of replies: the calls.
+pub(crate) const FORMAT: usize = 0;
 
-// The families.
-pub const FAMILIES: usize = 4;
+pub(crate) const GET: usize = 1;
 
-// Where the counts of replies begin, and how many replies a call can have.
-pub const REPLIES: usize = 64;
+pub(crate) const PUT: usize = 2;
 
-pub const REPLIES_PER_CALL: usize = 12;
+pub(crate) const REMOVE: usize = 3;
 
-// The calls, by their columns in the table of replies.
-pub const FORMAT: usize = 0;
+pub(crate) const MEND: usize = 4;
 
-pub const GET: usize = 1;
+pub(crate) const LIST: usize = 5;
 
-pub const PUT: usize = 2;
+// The refusals of document 01, and the lines of replies: done, each refusal, absent.
+const REFUSALS: u32 = 10;
 
-pub const REMOVE: usize = 3;
+pub(crate) const REPLIES: usize = REFUSALS as usize + 2;
 
-pub const MEND: usize = 4;
+// Where the number of words lent stands.
+pub(crate) const LENT: usize = COLUMNS * (REPLIES + 1);
 
-pub const LIST: usize = 5;
-
-// Adds to a word of the counts.
-fn add(arrays: &mut Arrays, at: usize, amount: u64)
-    requires { ⌜ at < 10000 ⌝ }
-    ensures { λ _. ⌜ now (arrays .exit) ≡ added (now (arrays .entry)) at amount ⌝ }
-{
+// Counts at a place of the lines; a column of line 0 is such a place.
+pub fn count(arrays: &mut Arrays, place: usize, amount: u64) {
+    let at = place % LENT;
     arrays[TALLY][at] = wrapping_add_u64(arrays[TALLY][at], amount);
 }
 
-// How many words are lent.
-pub(crate) fn lent(arrays: &Arrays) -> usize {
-    arrays[TALLY][LENT] as usize
-}
-
-// Counts in a column of the family at work.
-pub fn count(arrays: &mut Arrays, column: usize, amount: u64)
-    ensures { λ _. ⌜ now (arrays .exit) ≡ added (now (arrays .entry)) (columnAt (now (arrays .entry)) column) amount ⌝ }
-{
-    let family = arrays[TALLY][FAMILY] as usize;
-    add(
-        arrays,
-        FIRST_COLUMN + family % FAMILIES * COLUMNS + column % COLUMNS,
-        amount,
-    );
-}
-
-// Begins a case of the family at work: counts it, and lends the first words of the arrays to the calls
-// that follow.
-pub fn begin_case(arrays: &mut Arrays, length: usize)
-    ensures { λ _. ⌜ now (arrays .exit) ≡ setCount (added (now (arrays .entry)) (columnAt (now (arrays .entry)) 0) 1) 1 length ⌝ }
-{
+// Begins a case: counts it, and lends the first words of the arrays to the calls that follow.
+pub fn begin_case(arrays: &mut Arrays, length: usize) {
     count(arrays, CASES, 1);
     arrays[TALLY][LENT] = length as u64;
 }
 
 // Counts a comparison: a difference if it failed.
-pub fn expect(arrays: &mut Arrays, holds: bool)
-    ensures { λ _. ⌜ (holds ≡ true → now (arrays .exit) ≡ now (arrays .entry)) × (holds ≡ false → now (arrays .exit) ≡ added (now (arrays .entry)) (columnAt (now (arrays .entry)) 5) 1) ⌝ }
-{
+pub fn expect(arrays: &mut Arrays, holds: bool) {
     if !holds {
         count(arrays, DIFFERENCES, 1);
     }
 }
 
+// The line of a reply: line 1 for done, then the refusals, absent last.
+fn line_of(reply: u32) -> u32 {
+    if reply == ABSENT {
+        return REFUSALS + 2;
+    }
+    reply % (REFUSALS + 1) + 1
+}
+
 // Counts a reply of a call.
-pub(crate) fn count_reply(arrays: &mut Arrays, call: usize, reply: u32)
-    ensures { λ _. ⌜ now (arrays .exit) ≡ added (now (arrays .entry)) (64 + call % 6 * 12 + reply % 12) 1 ⌝ }
-{
-    add(
-        arrays,
-        REPLIES + call % 6 * REPLIES_PER_CALL + reply as usize % REPLIES_PER_CALL,
-        1,
-    );
+pub(crate) fn count_reply(arrays: &mut Arrays, call: usize, reply: u32) {
+    let line = line_of(reply) as usize;
+    count(arrays, COLUMNS * line + call % COLUMNS, 1);
 }

@@ -1,20 +1,19 @@
 // The array of words as the model sees it: word 0, entries, addresses.
 use crate::words::Cells;
 use crate::words::word_at;
-ghost use mathlib.Core.Path.{_≡_};
-ghost use Prim.Native.Nat.{_≤_, _^_};
+ghost use Prim.Native.Nat.{_≤_};
 
 // Document 01's mark in bits 32 to 63 of word 0, and the weights of the fields.
 const MARK: u64 = 0x50414745;
 
 const MARK_UNIT: u64 = 4294967296;
 
-const SEGMENTS_UNIT: u64 = 65536;
+pub const SEGMENTS_UNIT: u64 = 65536;
 
-const MAX_DEPTH_UNIT: u64 = 256;
+pub const MAX_DEPTH_UNIT: u64 = 256;
 
 // The weight of an entry's local depth.
-const LOCAL_DEPTH_UNIT: u64 = 4294967296;
+pub const LOCAL_DEPTH_UNIT: u64 = 4294967296;
 
 // The words and the slots of a segment.
 const SEGMENT_WORDS: usize = 128;
@@ -22,7 +21,7 @@ const SEGMENT_WORDS: usize = 128;
 pub(crate) const SLOTS: u32 = 64;
 
 // What word 0 says, and whether it is sound. All fields are 0 where it is not.
-pub struct Shape {
+pub(crate) struct Shape {
     pub sound: bool,
     pub depth: u32,
     pub max_depth: u32,
@@ -39,7 +38,7 @@ const UNSOUND: Shape = Shape {
 
 // 2 to the power of a number up to 16; 65,536 above.
 pub fn power(exponent: u32) -> u32
-    ensures { λ r. ⌜ (1 ≤ r) × (r ≤ 65536) × (exponent ≤ 16 → r ≡ 2 ^ exponent) ⌝ }
+    ensures { λ r. ⌜ (1 ≤ r) × (r ≤ 65536) ⌝ }
 {
     if 16 < exponent {
         return 65536;
@@ -72,9 +71,12 @@ pub(crate) fn shape_from(depth: u64, max_depth: u64, segments: u64) -> Shape {
     }
 }
 
-// The words that the shape takes: 2^(D+1) + 128 S.
-pub(crate) fn words_of(shape: Shape) -> usize {
-    2 * (power(shape.max_depth) as usize) + SEGMENT_WORDS * (shape.segments as usize)
+// The words before a segment: 2^(D+1) + 128 s. Before segment S, one behind the last, these are all the
+// words that an index takes.
+pub fn words_before(max_depth: u32, segment: u32) -> usize
+    ensures { λ r. ⌜ r ≤ 1099511627776 ⌝ }
+{
+    2 * (power(max_depth) as usize) + SEGMENT_WORDS * (segment as usize)
 }
 
 // The shape that word 0 gives to an array of this length. It is sound only if the array has the words
@@ -89,7 +91,7 @@ pub(crate) fn shape_of(words: &Cells, length: usize) -> Shape {
         first / MAX_DEPTH_UNIT % 256,
         first / SEGMENTS_UNIT % 65536,
     );
-    if length < words_of(shape) {
+    if length < words_before(shape.max_depth, shape.segments) {
         return UNSOUND;
     }
     shape
@@ -128,12 +130,9 @@ pub(crate) fn local_depth_of(entry: u64) -> u32 {
     (entry / LOCAL_DEPTH_UNIT) as u32
 }
 
-// The address of a slot's key.
-pub(crate) fn key_address(max_depth: u32, segment: u32, slot: u32) -> usize {
-    2 * (power(max_depth) as usize) + SEGMENT_WORDS * (segment as usize) + 2 * (slot as usize)
-}
-
-// The address of a slot's value.
-pub(crate) fn value_address(max_depth: u32, segment: u32, slot: u32) -> usize {
-    2 * (power(max_depth) as usize) + SEGMENT_WORDS * (segment as usize) + 2 * (slot as usize) + 1
+// The address of a slot's key; its value is behind it.
+pub(crate) fn key_address(max_depth: u32, segment: u32, slot: u32) -> usize
+    ensures { λ r. ⌜ r ≤ 2199023255552 ⌝ }
+{
+    words_before(max_depth, segment) + 2 * (slot as usize)
 }

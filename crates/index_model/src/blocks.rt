@@ -13,12 +13,12 @@ use crate::array::local_depth_of;
 use crate::array::power;
 use crate::array::segment_of;
 use crate::array::shape_of;
-use crate::array::value_address;
 use crate::route::index_at;
 use crate::words::CELLS;
 use crate::words::Cells;
 use crate::words::set_word;
 use crate::words::word_at;
+use std::num::wrapping_sub_u32;
 ghost use Prim.Native.Nat.{_≤_};
 
 // A block: the depth and the largest depth of its array, the segment and the local depth that its entry
@@ -34,7 +34,7 @@ pub(crate) struct Block {
 
 // The indices of a block of this local depth, 1 where the local depth is more than the depth.
 fn width_of(depth: u32, local_depth: u32) -> u32
-    ensures { λ r. ⌜ (1 ≤ r) × (r ≤ 65536) ⌝ }
+    ensures { λ r. ⌜ 1 ≤ r ⌝ }
 {
     if depth < local_depth {
         return 1;
@@ -52,7 +52,7 @@ pub(crate) fn block_at(words: &Cells, shape: Shape, index: u32) -> Block {
         max_depth: shape.max_depth,
         segment: segment_of(entry),
         local_depth,
-        start: index - index % width,
+        start: wrapping_sub_u32(index, index % width),
         width,
     }
 }
@@ -70,7 +70,7 @@ pub(crate) fn key_in(words: &Cells, block: Block, slot: u32) -> u64 {
 
 // The value of a slot of the block's segment.
 pub(crate) fn value_in(words: &Cells, block: Block, slot: u32) -> u64 {
-    word_at(words, value_address(block.max_depth, block.segment, slot))
+    word_at(words, key_address(block.max_depth, block.segment, slot) + 1)
 }
 
 // Whether a block's local depth and segment are in range.
@@ -118,9 +118,7 @@ pub(crate) fn leading_entry(words: &Cells, marks: &Cells, index: u32) -> u64 {
 
 // The walk's verdict: broken at a leader that is not sound, unmended if an entry is unequal to its
 // leader, else done.
-pub(crate) fn verdict_of(words: &Cells, shape: Shape) -> u32
-    ensures { λ r. ⌜ r ≤ 11 ⌝ }
-{
+pub(crate) fn verdict_of(words: &Cells, shape: Shape) -> u32 {
     let mut marks = [0u64; CELLS];
     if !mark_blocks(words, shape, &mut marks) {
         return BROKEN;
@@ -136,9 +134,7 @@ pub(crate) fn verdict_of(words: &Cells, shape: Shape) -> u32
 
 // What a put or a remove tests before anything else, in document 01's order; done if nothing is in
 // the way.
-pub(crate) fn tests_of_change(words: &Cells, length: usize, key: u64) -> u32
-    ensures { λ r. ⌜ r ≤ 11 ⌝ }
-{
+pub(crate) fn tests_of_change(words: &Cells, length: usize, key: u64) -> u32 {
     let shape = shape_of(words, length);
     if !shape.sound {
         return NO_STORE;

@@ -1,82 +1,76 @@
-// A call's draft: all its due stores, made on a copy of the array and noted, whatever the allowance;
-// and the making of the first noted ones on the array.
+// A call's draft: a copy of the array on which all due stores are made, whatever the allowance. Behind the
+// words of the index it has notes: how many stores are due, what the call has found, and the due stores
+// in order, each as address and value.
 use crate::CUT_OFF;
 use crate::Outcome;
-use crate::array::key_address;
-use crate::array::value_address;
-use crate::words::CELLS;
 use crate::words::Cells;
-use crate::words::append;
+use crate::words::WORDS;
 use crate::words::set_word;
-use crate::words::word_at;
-ghost use Prim.Native.Nat.{_≤_};
+use std::num::wrapping_add_usize;
 
-// The arrays of a draft: the copy of the words; a row with the addresses of the due stores, in order;
-// a row with their values, at the same places. So word 0 of a row says how many stores are due. The
-// rows have room for 9,999 stores; document 01's bound is 9,764.
-pub(crate) const COPY: usize = 0;
+// Where the notes stand.
+const DUE: usize = WORDS;
 
-pub(crate) const ADDRESSES: usize = 1;
+const FOUND: usize = WORDS + 1;
 
-pub(crate) const VALUES: usize = 2;
+const NOTES: usize = WORDS + 2;
 
-pub(crate) type Draft = [Cells; 3];
+// The stores that can be noted; document 01's bound is 9,764.
+const MOST_STORES: u64 = 9999;
 
-// A draft of this array, with no store due.
-pub(crate) fn draft_of(words: &Cells) -> Draft {
-    let mut draft = [[0u64; CELLS]; 3];
-    draft[COPY] = *words;
+// A draft of this array, with no store due and nothing found.
+pub(crate) fn draft_of(words: &Cells) -> Cells {
+    let mut draft = *words;
+    draft[DUE] = 0;
+    draft[FOUND] = 0;
     draft
 }
 
 // Makes a store on the copy and notes it behind the others.
-pub(crate) fn note(draft: &mut Draft, at: usize, value: u64) {
-    set_word(&mut draft[COPY], at, value);
-    append(&mut draft[ADDRESSES], at as u64);
-    append(&mut draft[VALUES], value);
+pub(crate) fn note(draft: &mut Cells, at: usize, value: u64) {
+    set_word(draft, at, value);
+    let due = draft[DUE] % MOST_STORES;
+    let place = NOTES + 2 * due as usize;
+    draft[place] = at as u64;
+    draft[place + 1] = value;
+    draft[DUE] = due + 1;
 }
 
-// Makes a record's two stores into a slot of a segment: value, then key.
-pub(crate) fn note_record(
-    draft: &mut Draft,
-    max_depth: u32,
-    segment: u32,
-    slot: u32,
-    key: u64,
-    value: u64,
-) {
-    note(draft, value_address(max_depth, segment, slot), value);
-    note(draft, key_address(max_depth, segment, slot), key);
+// Makes a record's two stores into the slot whose key is at this address: value, then key.
+pub(crate) fn note_record(draft: &mut Cells, at: usize, key: u64, value: u64) {
+    note(draft, wrapping_add_usize(at, 1), value);
+    note(draft, at, key);
+}
+
+// Notes what a get or a list has found.
+pub(crate) fn note_found(draft: &mut Cells, value: u64) {
+    draft[FOUND] = value;
 }
 
 // Makes the first `count` noted stores on the array.
-fn make_stores(words: &mut Cells, draft: &Draft, count: u32) {
+fn make_stores(words: &mut Cells, draft: &Cells, count: u64) {
     for i in 0..count {
-        let place = i as usize + 1;
-        let at = word_at(&draft[ADDRESSES], place) as usize;
-        set_word(words, at, word_at(&draft[VALUES], place));
+        let place = NOTES + 2 * (i % MOST_STORES) as usize;
+        set_word(words, draft[place] as usize, draft[place + 1]);
     }
 }
 
 // Makes the draft's stores on the array, as many as are allowed, and answers `reply`, or cut off if
 // more are due.
-pub(crate) fn carry_out(words: &mut Cells, draft: &Draft, reply: u32, allowance: u32) -> Outcome
-    requires { ⌜ reply ≤ 11 ⌝ }
-    ensures { λ r. ⌜ (r .reply ≤ 11) × (r .stores ≤ allowance) ⌝ }
-{
-    let due = draft[ADDRESSES][0];
+pub(crate) fn carry_out(words: &mut Cells, draft: &Cells, reply: u32, allowance: u32) -> Outcome {
+    let due = draft[DUE];
     if (allowance as u64) < due {
-        make_stores(words, draft, allowance);
+        make_stores(words, draft, allowance as u64);
         return Outcome {
             reply: CUT_OFF,
             stores: allowance,
             value: 0,
         };
     }
-    make_stores(words, draft, due as u32);
+    make_stores(words, draft, due);
     Outcome {
         reply,
         stores: due as u32,
-        value: 0,
+        value: draft[FOUND],
     }
 }

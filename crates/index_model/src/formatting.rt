@@ -7,14 +7,13 @@ use crate::array::Shape;
 use crate::array::first_word;
 use crate::array::key_address;
 use crate::array::shape_from;
-use crate::array::words_of;
-use crate::draft::Draft;
+use crate::array::words_before;
 use crate::draft::note;
-ghost use Prim.Native.Nat.{_≤_};
+use crate::words::Cells;
 
 // The stores of a format, in document 01's order: word 0 and the entry of depth 0 become 0, the keys of
 // segment 0 too, and then word 0 is made sound.
-fn note_empty(draft: &mut Draft, shape: Shape) {
+fn note_empty(draft: &mut Cells, shape: Shape) {
     note(draft, 0, 0);
     note(draft, 1, 0);
     for slot in 0..SLOTS {
@@ -24,14 +23,12 @@ fn note_empty(draft: &mut Draft, shape: Shape) {
 }
 
 // Plans an empty index, if its shape is allowed and the array has the words.
-pub(crate) fn plan_format(draft: &mut Draft, length: usize, max_depth: u64, segments: u64) -> u32
-    ensures { λ r. ⌜ r ≤ 11 ⌝ }
-{
+pub(crate) fn plan_format(draft: &mut Cells, length: usize, max_depth: u64, segments: u64) -> u32 {
     let shape = shape_from(0, max_depth, segments);
     if !shape.sound {
         return BAD_SHAPE;
     }
-    if length < words_of(shape) {
+    if length < words_before(shape.max_depth, shape.segments) {
         return TOO_SHORT;
     }
     note_empty(draft, shape);

@@ -8,7 +8,7 @@ pub mod array;
 mod blocks;
 mod draft;
 mod formatting;
-mod listing;
+pub mod listing;
 mod mending;
 mod placing;
 mod putting;
@@ -23,19 +23,17 @@ use blocks::is_in_range;
 use blocks::value_in;
 use draft::carry_out;
 use draft::draft_of;
+use draft::note_found;
 use formatting::plan_format;
-use listing::hand_out;
 use listing::plan_list;
 use mending::plan_mend;
 use placing::NO_SLOT;
 use placing::find_key;
 use putting::plan_put;
 use removing::plan_remove;
-use words::CELLS;
 use words::Cells;
-ghost use Prim.Native.Nat.{_≤_};
 
-// The model's replies: done, document 01's refusals by their numbers, absent.
+// The model's replies: done, document 01's refusals by their numbers, and absent, which has no number there.
 pub const DONE: u32 = 0;
 
 pub const NO_STORE: u32 = 1;
@@ -58,102 +56,74 @@ pub const TOO_SHORT: u32 = 9;
 
 pub const SHORT_LIST: u32 = 10;
 
-pub const ABSENT: u32 = 11;
+pub const ABSENT: u32 = 255;
 
-// What a call of the model answers: its reply, the stores made, and a get's value or a list's number
-// of records.
+// A call: a format with D and S, a get with its key, a put with key and value, a remove with its key, a
+// mend, a list with the words of its list array. Those that store have their allowance last.
+pub enum Call {
+    Format(u64, u64, u32),
+    Get(u64),
+    Put(u64, u64, u32),
+    Remove(u64, u32),
+    Mend(u32),
+    List(usize),
+}
+
+// What a call answers: its reply, the stores made, and a get's value or a list's number of records.
 pub struct Outcome {
     pub reply: u32,
     pub stores: u32,
     pub value: u64,
 }
 
-// The answer of a call that never stores.
-fn without_stores(reply: u32, value: u64) -> Outcome
-    requires { ⌜ reply ≤ 11 ⌝ }
-    ensures { λ r. ⌜ (r .reply ≤ 11) × (r .stores ≤ 0) ⌝ }
-{
-    Outcome {
-        reply,
-        stores: 0,
-        value,
-    }
-}
-
-// Format: an empty index.
-pub fn format(
-    words: &mut Cells,
-    length: usize,
-    max_depth: u64,
-    segments: u64,
-    allowance: u32,
-) -> Outcome
-    ensures { λ r. ⌜ (r .reply ≤ 11) × (r .stores ≤ allowance) ⌝ }
-{
-    let mut draft = draft_of(words);
-    let reply = plan_format(&mut draft, length, max_depth, segments);
-    carry_out(words, &draft, reply, allowance)
-}
-
-// Get: the value of a key. It goes by the key's own entry alone.
-pub fn get(words: &Cells, length: usize, key: u64) -> Outcome
-    ensures { λ r. ⌜ (r .reply ≤ 11) × (r .stores ≤ 0) ⌝ }
-{
-    let shape = shape_of(words, length);
+// Plans a get: the value of a key. It goes by the key's own entry alone.
+fn plan_get(draft: &mut Cells, length: usize, key: u64) -> u32 {
+    let shape = shape_of(draft, length);
     if !shape.sound {
-        return without_stores(NO_STORE, 0);
+        return NO_STORE;
     }
     if key == 0 {
-        return without_stores(NO_KEY, 0);
+        return NO_KEY;
     }
-    let block = block_of(words, length, key);
+    let block = block_of(draft, length, key);
     if !is_in_range(shape, block) {
-        return without_stores(BROKEN, 0);
+        return BROKEN;
     }
-    let slot = find_key(words, block, key);
+    let slot = find_key(draft, block, key);
     if slot == NO_SLOT {
-        return without_stores(ABSENT, 0);
+        return ABSENT;
     }
-    without_stores(DONE, value_in(words, block, slot))
+    let value = value_in(draft, block, slot);
+    note_found(draft, value);
+    DONE
 }
 
-// Put: a key with its value.
-pub fn put(words: &mut Cells, length: usize, key: u64, value: u64, allowance: u32) -> Outcome
-    ensures { λ r. ⌜ (r .reply ≤ 11) × (r .stores ≤ allowance) ⌝ }
-{
-    let mut draft = draft_of(words);
-    let reply = plan_put(&mut draft, length, key, value);
-    carry_out(words, &draft, reply, allowance)
-}
-
-// Remove: a key and its value away.
-pub fn remove(words: &mut Cells, length: usize, key: u64, allowance: u32) -> Outcome
-    ensures { λ r. ⌜ (r .reply ≤ 11) × (r .stores ≤ allowance) ⌝ }
-{
-    let mut draft = draft_of(words);
-    let reply = plan_remove(&mut draft, length, key);
-    carry_out(words, &draft, reply, allowance)
-}
-
-// Mend: each entry its leader's word.
-pub fn mend(words: &mut Cells, length: usize, allowance: u32) -> Outcome
-    ensures { λ r. ⌜ (r .reply ≤ 11) × (r .stores ≤ allowance) ⌝ }
-{
-    let mut draft = draft_of(words);
-    let reply = plan_mend(&mut draft, length);
-    carry_out(words, &draft, reply, allowance)
-}
-
-// List: every live record, key then value, into a list array of `room` words; the words behind them
-// stay.
-pub fn list(words: &Cells, length: usize, list: &mut Cells, room: usize) -> Outcome
-    ensures { λ r. ⌜ (r .reply ≤ 11) × (r .stores ≤ 0) ⌝ }
-{
-    let mut row = [0u64; CELLS];
-    let reply = plan_list(words, length, room, &mut row);
-    if reply != DONE {
-        return without_stores(reply, 0);
+// The plan of a call: its due stores and what it finds, on the draft, and its reply.
+fn plan(draft: &mut Cells, length: usize, call: Call) -> u32 {
+    match call {
+        Call::Format(max_depth, segments, _) => plan_format(draft, length, max_depth, segments),
+        Call::Get(key) => plan_get(draft, length, key),
+        Call::Put(key, value, _) => plan_put(draft, length, key, value),
+        Call::Remove(key, _) => plan_remove(draft, length, key),
+        Call::Mend(_) => plan_mend(draft, length),
+        Call::List(room) => plan_list(draft, length, room),
     }
-    hand_out(&row, list);
-    without_stores(DONE, row[0] / 2)
+}
+
+// The stores that a call may make.
+fn allowance_of(call: Call) -> u32 {
+    match call {
+        Call::Format(_, _, allowance) => allowance,
+        Call::Put(_, _, allowance) => allowance,
+        Call::Remove(_, allowance) => allowance,
+        Call::Mend(allowance) => allowance,
+        _ => 0,
+    }
+}
+
+// Makes a call on the first `length` words of an array.
+pub fn perform(words: &mut Cells, length: usize, call: Call) -> Outcome {
+    let mut draft = draft_of(words);
+    let reply = plan(&mut draft, length, call);
+    carry_out(words, &draft, reply, allowance_of(call))
 }

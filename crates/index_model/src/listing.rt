@@ -1,4 +1,4 @@
-// The records of a list, collected in a row of the model's own.
+// The records of a list, collected in a row.
 use crate::DONE;
 use crate::NO_STORE;
 use crate::SHORT_LIST;
@@ -11,12 +11,11 @@ use crate::blocks::block_at;
 use crate::blocks::key_in;
 use crate::blocks::value_in;
 use crate::blocks::verdict_of;
+use crate::draft::note_found;
 use crate::route::is_live;
+use crate::words::CELLS;
 use crate::words::Cells;
 use crate::words::append;
-use crate::words::set_word;
-use crate::words::word_at;
-ghost use Prim.Native.Nat.{_≤_};
 
 // Puts the records of a block that are live, key then value, behind those of the row.
 fn collect_block(words: &Cells, block: Block, row: &mut Cells) {
@@ -41,30 +40,27 @@ fn collect_all(words: &Cells, shape: Shape, row: &mut Cells) {
     }
 }
 
-// Plans a list: collects all live records in the row, if nothing is in the way, and tests whether they
-// fit into `room` words.
-pub(crate) fn plan_list(words: &Cells, length: usize, room: usize, row: &mut Cells) -> u32
-    ensures { λ r. ⌜ r ≤ 11 ⌝ }
-{
-    let shape = shape_of(words, length);
+// The records of an index whose directory is tidy, key then value, as a row.
+pub fn records(words: &Cells, length: usize) -> Cells {
+    let mut row = [0u64; CELLS];
+    collect_all(words, shape_of(words, length), &mut row);
+    row
+}
+
+// Plans a list: how many records there are, if `room` words of a list array hold them.
+pub(crate) fn plan_list(draft: &mut Cells, length: usize, room: usize) -> u32 {
+    let shape = shape_of(draft, length);
     if !shape.sound {
         return NO_STORE;
     }
-    let verdict = verdict_of(words, shape);
+    let verdict = verdict_of(draft, shape);
     if verdict != DONE {
         return verdict;
     }
-    collect_all(words, shape, row);
-    if (room as u64) < row[0] {
+    let count = records(draft, length)[0];
+    if (room as u64) < count {
         return SHORT_LIST;
     }
+    note_found(draft, count / 2);
     DONE
-}
-
-// Copies the words of the row into the list array.
-pub(crate) fn hand_out(row: &Cells, list: &mut Cells) {
-    let count = word_at(row, 0) as usize;
-    for i in 0..count {
-        set_word(list, i, word_at(row, i + 1));
-    }
 }

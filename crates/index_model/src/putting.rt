@@ -2,12 +2,10 @@
 use crate::DONE;
 use crate::NO_SEGMENT;
 use crate::TOO_DEEP;
-use crate::array::value_address;
+use crate::array::key_address;
 use crate::blocks::Block;
 use crate::blocks::block_of;
 use crate::blocks::tests_of_change;
-use crate::draft::COPY;
-use crate::draft::Draft;
 use crate::draft::note;
 use crate::draft::note_record;
 use crate::placing::NO_SLOT;
@@ -17,22 +15,20 @@ use crate::splitting::NO_SEGMENT_NUMBER;
 use crate::splitting::divide;
 use crate::splitting::double;
 use crate::splitting::free_number;
-ghost use Prim.Native.Nat.{_≤_};
+use crate::words::Cells;
 
 // The attempts that a put can need: a split for each depth, and the last one.
 const ATTEMPTS: u32 = 13;
 
-// A put that is not at its end: a reply behind those of the calls.
-const GOING_ON: u32 = 12;
+// A put that is not at its end: no reply has this number.
+const GOING_ON: u32 = 256;
 
 // The split of a block that a put needs, if it can be made; the put goes on behind it.
-fn attempt_split(draft: &mut Draft, length: usize, block: Block, key: u64) -> u32
-    ensures { λ r. ⌜ r ≤ 12 ⌝ }
-{
+fn attempt_split(draft: &mut Cells, length: usize, block: Block, key: u64) -> u32 {
     if block.local_depth == block.max_depth {
         return TOO_DEEP;
     }
-    let new_segment = free_number(&draft[COPY], length);
+    let new_segment = free_number(draft, length);
     if new_segment == NO_SEGMENT_NUMBER {
         return NO_SEGMENT;
     }
@@ -44,46 +40,37 @@ fn attempt_split(draft: &mut Draft, length: usize, block: Block, key: u64) -> u3
 }
 
 // The record of a key that is not held, in the first usable slot; or a split, if there is none.
-fn attempt_record(draft: &mut Draft, length: usize, block: Block, key: u64, value: u64) -> u32
-    ensures { λ r. ⌜ r ≤ 12 ⌝ }
-{
-    let room = find_room(&draft[COPY], block, key);
+fn attempt_record(draft: &mut Cells, length: usize, block: Block, key: u64, value: u64) -> u32 {
+    let room = find_room(draft, block, key);
     if room == NO_SLOT {
         return attempt_split(draft, length, block, key);
     }
-    note_record(draft, block.max_depth, block.segment, room, key, value);
+    let at = key_address(block.max_depth, block.segment, room);
+    note_record(draft, at, key, value);
     DONE
 }
 
 // One attempt of a put: a new value if the key is held, else a new record.
-fn attempt(draft: &mut Draft, length: usize, key: u64, value: u64) -> u32
-    ensures { λ r. ⌜ r ≤ 12 ⌝ }
-{
-    let copy = &draft[COPY];
-    let block = block_of(copy, length, key);
-    let held = find_key(copy, block, key);
+fn attempt(draft: &mut Cells, length: usize, key: u64, value: u64) -> u32 {
+    let block = block_of(draft, length, key);
+    let held = find_key(draft, block, key);
     if held == NO_SLOT {
         return attempt_record(draft, length, block, key, value);
     }
-    note(
-        draft,
-        value_address(block.max_depth, block.segment, held),
-        value,
-    );
+    let at = key_address(block.max_depth, block.segment, held);
+    note(draft, at + 1, value);
     DONE
 }
 
 // Plans a put, if nothing is in the way: attempts, until one is the end.
-pub(crate) fn plan_put(draft: &mut Draft, length: usize, key: u64, value: u64) -> u32
-    ensures { λ r. ⌜ r ≤ 11 ⌝ }
-{
-    let refusal = tests_of_change(&draft[COPY], length, key);
+pub(crate) fn plan_put(draft: &mut Cells, length: usize, key: u64, value: u64) -> u32 {
+    let refusal = tests_of_change(draft, length, key);
     if refusal != DONE {
         return refusal;
     }
     for _ in 0..ATTEMPTS {
         let reply = attempt(draft, length, key, value);
-        if reply < GOING_ON {
+        if reply != GOING_ON {
             return reply;
         }
     }

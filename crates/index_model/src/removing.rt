@@ -4,24 +4,19 @@ use crate::DONE;
 use crate::array::key_address;
 use crate::blocks::block_of;
 use crate::blocks::tests_of_change;
-use crate::draft::COPY;
-use crate::draft::Draft;
 use crate::draft::note;
 use crate::placing::NO_SLOT;
 use crate::placing::find_key;
-ghost use Prim.Native.Nat.{_≤_};
+use crate::words::Cells;
 
 // Plans a remove, if nothing is in the way: the key word at the first slot that holds the key becomes 0.
-pub(crate) fn plan_remove(draft: &mut Draft, length: usize, key: u64) -> u32
-    ensures { λ r. ⌜ r ≤ 11 ⌝ }
-{
-    let copy = &draft[COPY];
-    let refusal = tests_of_change(copy, length, key);
+pub(crate) fn plan_remove(draft: &mut Cells, length: usize, key: u64) -> u32 {
+    let refusal = tests_of_change(draft, length, key);
     if refusal != DONE {
         return refusal;
     }
-    let block = block_of(copy, length, key);
-    let slot = find_key(copy, block, key);
+    let block = block_of(draft, length, key);
+    let slot = find_key(draft, block, key);
     if slot == NO_SLOT {
         return ABSENT;
     }

@@ -11,8 +11,6 @@ use crate::blocks::Block;
 use crate::blocks::block_of;
 use crate::blocks::key_in;
 use crate::blocks::value_in;
-use crate::draft::COPY;
-use crate::draft::Draft;
 use crate::draft::note;
 use crate::draft::note_record;
 use crate::route::is_live;
@@ -50,8 +48,8 @@ pub(crate) fn free_number(words: &Cells, length: usize) -> u32 {
 }
 
 // One entry of the doubling: entry e of the directory one deeper gets entry floor(e / 2).
-fn double_entry(draft: &mut Draft, depth: u32, index: u32) {
-    let entry = entry_at(&draft[COPY], depth, index / 2);
+fn double_entry(draft: &mut Cells, depth: u32, index: u32) {
+    let entry = entry_at(draft, depth, index / 2);
     note(
         draft,
         entry_address(wrapping_add_u32(depth, 1), index),
@@ -61,37 +59,37 @@ fn double_entry(draft: &mut Draft, depth: u32, index: u32) {
 
 // Doubles the directory of this depth (split, step 2): its entries, rising, and then word 0, whose
 // lowest bits hold G: with one more it has G + 1.
-pub(crate) fn double(draft: &mut Draft, depth: u32) {
+pub(crate) fn double(draft: &mut Cells, depth: u32) {
     let count = power(wrapping_add_u32(depth, 1));
     for index in 0..count {
         double_entry(draft, depth, index);
     }
-    let first = word_at(&draft[COPY], 0);
+    let first = word_at(draft, 0);
     note(draft, 0, wrapping_add_u64(first, 1));
 }
 
 // One slot of the copy step (split, step 3): a live record whose route bit number L is 1 goes to the
 // same slot of the new segment; any other slot is emptied there.
-fn copy_slot(draft: &mut Draft, block: Block, new_segment: u32, slot: u32) {
-    let copy = &draft[COPY];
-    let key = key_in(copy, block, slot);
-    let value = value_in(copy, block, slot);
+fn copy_slot(draft: &mut Cells, block: Block, new_segment: u32, slot: u32) {
+    let key = key_in(draft, block, slot);
+    let value = value_in(draft, block, slot);
+    let at = key_address(block.max_depth, new_segment, slot);
     if is_live(key, block) && route_bit(key, block.local_depth) == 1 {
-        note_record(draft, block.max_depth, new_segment, slot, key, value);
+        note_record(draft, at, key, value);
     } else {
-        note(draft, key_address(block.max_depth, new_segment, slot), 0);
+        note(draft, at, 0);
     }
 }
 
 // The copy step over all slots.
-fn copy_slots(draft: &mut Draft, block: Block, new_segment: u32) {
+fn copy_slots(draft: &mut Cells, block: Block, new_segment: u32) {
     for slot in 0..SLOTS {
         copy_slot(draft, block, new_segment, slot);
     }
 }
 
 // Gives the `width` entries from `start` on this word, from right to left.
-fn fill_entries(draft: &mut Draft, depth: u32, start: u32, width: u32, entry: u64) {
+fn fill_entries(draft: &mut Cells, depth: u32, start: u32, width: u32, entry: u64) {
     for passed in 0..width {
         let index = wrapping_add_u32(start, width - 1 - passed);
         note(draft, entry_address(depth, index), entry);
@@ -100,7 +98,7 @@ fn fill_entries(draft: &mut Draft, depth: u32, start: u32, width: u32, entry: u6
 
 // The entries of a block (split, step 4): the right half gets the new segment, then the left half the
 // old one, both one deeper.
-fn halve(draft: &mut Draft, block: Block, new_segment: u32) {
+fn halve(draft: &mut Cells, block: Block, new_segment: u32) {
     let half = block.width / 2;
     let middle = wrapping_add_u32(block.start, half);
     let deeper = wrapping_add_u32(block.local_depth, 1);
@@ -121,9 +119,8 @@ fn halve(draft: &mut Draft, block: Block, new_segment: u32) {
 }
 
 // Divides the key's block, as it is after any doubling, between its segment and the new one.
-pub(crate) fn divide(draft: &mut Draft, length: usize, key: u64, new_segment: u32) {
-    let copy = &draft[COPY];
-    let block = block_of(copy, length, key);
+pub(crate) fn divide(draft: &mut Cells, length: usize, key: u64, new_segment: u32) {
+    let block = block_of(draft, length, key);
     copy_slots(draft, block, new_segment);
     halve(draft, block, new_segment);
 }

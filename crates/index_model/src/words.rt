@@ -1,31 +1,27 @@
 // The arrays of the test and of its model: all have one length, and keep it by their type. A read
-// outside an array gives 0 and a store there does nothing, so that nothing needs a fact on addresses; a
-// store that is lost so shows as a difference.
+// outside the words of an index gives 0 and a store there does nothing, so that nothing needs a fact on
+// addresses; a store that is lost so shows as a difference.
 use std::num::wrapping_add_u64;
-ghost use mathlib.Core.Path.{_≡_};
-ghost use Prim.Native.Nat.{_≤_, _<_};
-ghost use lib.ListN.{getD, set};
 
-// The words of an array: those of the put with the most stores, and some behind.
-pub const CELLS: usize = 10000;
+// The most words of an index: those of the put with the most stores, and some behind.
+pub const WORDS: usize = 10000;
+
+// The words of an array: behind those of an index a draft has its notes.
+pub const CELLS: usize = 30000;
 
 pub type Cells = [u64; CELLS];
 
-// The word at an address, 0 outside the array.
-pub fn word_at(cells: &Cells, at: usize) -> u64
-    ensures { λ r. ⌜ (at < 10000 → r ≡ getD (now (cells .entry)) at 0) × (10000 ≤ at → r ≡ 0) ⌝ }
-{
-    if at < CELLS {
+// The word at an address of an index, 0 outside.
+pub fn word_at(cells: &Cells, at: usize) -> u64 {
+    if at < WORDS {
         return cells[at];
     }
     0
 }
 
-// Stores a word at an address of the array; outside it does nothing.
-pub fn set_word(cells: &mut Cells, at: usize, value: u64)
-    ensures { λ _. ⌜ (at < 10000 → now (cells .exit) ≡ set (now (cells .entry)) at value) × (10000 ≤ at → now (cells .exit) ≡ now (cells .entry)) ⌝ }
-{
-    if at < CELLS {
+// Stores a word at an address of an index; outside it does nothing.
+pub fn set_word(cells: &mut Cells, at: usize, value: u64) {
+    if at < WORDS {
         cells[at] = value;
     }
 }

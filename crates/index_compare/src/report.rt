@@ -1,0 +1,65 @@
+// The table on standard output. Every number in it was counted.
+use crate::tally::COLUMNS;
+use crate::tally::REPLIES;
+use index_model::words::Cells;
+use index_model::words::word_at;
+use libc::STDOUT_FILENO;
+
+// The width of a column of numbers.
+const WIDTH: u32 = 12;
+
+// The name of a family or of a reply.
+pub type Name = [u8; 14];
+
+const REPLY_NAMES: [Name; REPLIES] = [
+    *b"done          ",
+    *b"1 no store    ",
+    *b"2 no key      ",
+    *b"3 broken      ",
+    *b"4 unmended    ",
+    *b"5 too deep    ",
+    *b"6 no segment  ",
+    *b"7 cut off     ",
+    *b"8 bad shape   ",
+    *b"9 too short   ",
+    *b"10 short list ",
+    *b"absent        ",
+];
+
+// Writes a number at the right of its column: a space for each place that it leaves.
+fn write_number(number: u64) {
+    let mut rest = number;
+    for _ in 1..WIDTH {
+        rest = rest / 10;
+        if rest == 0 {
+            io::write_all(STDOUT_FILENO, b" ");
+        }
+    }
+    io::print_decimal(STDOUT_FILENO, number);
+}
+
+// Writes a name and the numbers of a line of the counts.
+fn write_line(tally: &Cells, line: u32, name: &Name) {
+    io::write_all(STDOUT_FILENO, name);
+    for column in 0..COLUMNS {
+        write_number(word_at(tally, COLUMNS * (line as usize) + column));
+    }
+    io::write_all(STDOUT_FILENO, b"\n");
+}
+
+// Writes the whole table of a family.
+pub fn write_table(tally: &Cells, family: &Name) {
+    io::write_all(
+        STDOUT_FILENO,
+        b"family               cases       calls   cut calls      stores     lookups differences\n",
+    );
+    write_line(tally, 0, family);
+    io::write_all(
+        STDOUT_FILENO,
+        b"\nreply               format         get         put      remove        mend        list\n",
+    );
+    for reply in 0..REPLIES {
+        let name = REPLY_NAMES[reply];
+        write_line(tally, reply as u32 + 1, &name);
+    }
+}

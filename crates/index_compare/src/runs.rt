@@ -1,0 +1,108 @@
+// Random runs: a run's keys, which stand in the plain table, and its calls.
+use crate::compare::ALL_STORES;
+use crate::generator::from_seed;
+use crate::generator::next;
+use crate::generator::own_key;
+use index_model::Call;
+use index_model::words::Cells;
+use index_model::words::WORDS;
+use index_model::words::set_word;
+use index_model::words::word_at;
+use std::num::wrapping_add_usize;
+
+// The keys of a run. Each has an entry of three words in the table: the key, whether it has a value, and
+// the value.
+pub const KEYS: usize = 48;
+
+pub const ENTRY_WORDS: usize = 3;
+
+// A key of a run. By the seed the keys are running numbers; of a few buckets, with any route bits; of
+// one bucket and few routes, so that segments get deep; or half of one route and half spread, so that
+// shallow blocks stand in a deep directory.
+fn key_for(seed: u64, number: u64, roll: u64) -> u64 {
+    let own = own_key(number);
+    match seed % 4 {
+        0 => number % 65536 + 1,
+        1 => own + roll % 3 + roll / 16 % 256 * 16,
+        2 => own + 13 + roll / 8 % 2 * 16 + seed / 4 % 256 * 64,
+        _ => if number % 2 == 0 {
+            own + 14
+        } else {
+            own + roll % 2 + 16 + roll / 16 % 64 * 32
+        },
+    }
+}
+
+// Draws the keys of a run, each without a value.
+pub fn draw_keys(table: &mut Cells, seed: u64) {
+    let mut roll = from_seed(seed);
+    for number in 0..KEYS {
+        roll = next(roll);
+        set_word(
+            table,
+            ENTRY_WORDS * number,
+            key_for(seed, number as u64, roll),
+        );
+        set_word(table, ENTRY_WORDS * number + 1, 0);
+    }
+}
+
+// How many keys have a value.
+fn size_of(table: &Cells) -> usize {
+    let mut size: usize = 0;
+    for number in 0..KEYS {
+        if word_at(table, ENTRY_WORDS * number + 1) != 0 {
+            size = wrapping_add_usize(size, 1);
+        }
+    }
+    size
+}
+
+// The entry of the key that a step is about.
+pub fn entry_for(roll: u64) -> usize {
+    ENTRY_WORDS * (roll / 16 % 48) as usize
+}
+
+// The allowance of a remove: half of them all stores, the others none or one.
+fn remove_allowance(roll: u64) -> u32 {
+    if roll % 2 == 0 {
+        return ALL_STORES;
+    }
+    (roll / 1024 % 2) as u32
+}
+
+// The room of a list: just enough for `size` records, one word less, none, or plenty.
+fn room_for(size: usize, roll: u64) -> usize {
+    let enough = 2 * (size % 1024);
+    match roll % 4 {
+        0 => enough,
+        1 => if enough == 0 { 0 } else { enough - 1 },
+        2 => 0,
+        _ => WORDS,
+    }
+}
+
+// A format with a shape that is refused, as a run may have it.
+fn refused_format(roll: u64) -> Call {
+    match roll % 4 {
+        0 => Call::Format(1, 1, ALL_STORES),
+        1 => Call::Format(13, 1, ALL_STORES),
+        2 => Call::Format(4, 17, ALL_STORES),
+        _ => Call::Format(12, 4096, ALL_STORES),
+    }
+}
+
+// The call of a step, by a random number. Half are puts that all their stores are allowed.
+pub fn call_for(table: &Cells, roll: u64) -> Call {
+    let key = word_at(table, entry_for(roll));
+    let value = roll / 1024;
+    match roll % 16 {
+        0..=7 => Call::Put(key, value, ALL_STORES),
+        8 | 9 => Call::Remove(key, remove_allowance(roll)),
+        10 => Call::Get(key),
+        11 => Call::List(room_for(size_of(table), value)),
+        12 => Call::Mend((value % 2) as u32),
+        13 => refused_format(value),
+        _ => Call::Put(key, value, (value % 128) as u32),
+    }
+}

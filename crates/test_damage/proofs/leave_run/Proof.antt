@@ -1,0 +1,30 @@
+use borrow.Author.Needs.{needs}
+use Prim.Native.Nat.{_-_, _≤_}
+use Rattle.test_damage.proofs.leave_run.Statement.{statement}
+use Rattle.test_damage.proofs.leave_run.Tie as tie
+
+pub leave-run-spec : {M : Type 1} → statement M
+leave-run-spec =
+    tie.close
+    (tie.spec
+    (λ arrays₀ roll₀ counter₀ arrays roll counter. 0 ≤ counter)
+    (λ arrays₀ roll₀ counter₀ arrays roll counter. 158 - counter)
+    (λ c. search needs)
+    (λ c κs. search needs)
+    (λ c. search needs)
+    (λ c κs. search needs)
+    (λ c. search needs)
+    (λ c κs. search needs)
+    (λ c κs. search needs)
+    (λ c. search needs)
+    (λ c κs. search needs)
+    (λ c. search needs)
+    (λ c κs. search needs)
+    (λ c. search needs)
+    (λ c κs. search needs)
+    (λ c. search needs)
+    (λ c κs. search needs)
+    (λ c. search needs)
+    (λ c. search needs)
+    (λ c. search needs)
+    (λ c. search needs))

@@ -1,0 +1,335 @@
+// Family 3 of the test: damaged arrays. A short run is saved; then, again and again, the saved array is
+// spoiled in one or two places, lent with its just length, one word less or some more, and random calls
+// are made on it.
+use index_compare::arrays::ARRAYS;
+use index_compare::arrays::Arrays;
+use index_compare::arrays::INDEX;
+use index_compare::arrays::MODEL;
+use index_compare::arrays::SAVED;
+use index_compare::arrays::TABLE;
+use index_compare::arrays::TALLY;
+use index_compare::compare::ALL_STORES;
+use index_compare::compare::compare;
+use index_compare::compare::make;
+use index_compare::generator::from_seed;
+use index_compare::generator::next;
+use index_compare::generator::own_key;
+use index_compare::generator::scatter;
+use index_compare::report::write_table;
+use index_compare::runs::call_for;
+use index_compare::runs::draw_keys;
+use index_compare::tally::begin_case;
+use index_model::Call;
+use index_model::array::LOCAL_DEPTH_UNIT;
+use index_model::array::MAX_DEPTH_UNIT;
+use index_model::array::SEGMENTS_UNIT;
+use index_model::array::power;
+use index_model::array::words_before;
+use index_model::words::CELLS;
+use index_model::words::Cells;
+use index_model::words::WORDS;
+use index_model::words::set_word;
+use index_model::words::word_at;
+use std::num::wrapping_add_u64;
+use std::num::wrapping_sub_u64;
+
+// The saved runs, the puts of each, the damages of each, the calls on each damaged array.
+const BASES: u64 = 120;
+
+const BASE_STEPS: u32 = 70;
+
+const DAMAGES: u64 = 60;
+
+const CALLS_PER_DAMAGE: u32 = 10;
+
+// A run of family 2: its seed, and its steps before the last put.
+const LEFT_SEED: u64 = 415;
+
+const LEFT_STEPS: u32 = 158;
+
+// Words behind those that the index takes.
+const WORDS_BEHIND: usize = 8;
+
+// The weight of the upper half of a word: the mark of word 0, and an entry's local depth.
+const UPPER_HALF: u64 = LOCAL_DEPTH_UNIT;
+
+// A saved run: its largest depth and segments, and its number.
+struct Setting {
+    max_depth: u32,
+    segments: u32,
+    number: u64,
+}
+
+// A key of a saved run: one of 48, by the run's number running, of three buckets, of one bucket with
+// two routes, or half of one route and half spread.
+fn key_of(run: u64, roll: u64) -> u64 {
+    let number = roll % 48;
+    let own = own_key(number);
+    match run % 4 {
+        0 => number + 1,
+        1 => own + number % 3 + number * 16,
+        2 => own + 13 + number % 2 * 16 + run / 4 % 256 * 64,
+        _ => if number % 2 == 0 {
+            own + 14
+        } else {
+            own + number / 2 % 2 + 16 + number * 32
+        },
+    }
+}
+
+// A random number below a bound, 0 where the bound is 0.
+fn below(roll: u64, bound: u32) -> u32 {
+    if bound == 0 {
+        return 0;
+    }
+    (roll % UPPER_HALF) as u32 % bound
+}
+
+// What the arrays hold before the first run to be saved: random words, and a run of family 2 in them.
+fn leave_run(arrays: &mut Arrays) {
+    draw_keys(&mut arrays[TABLE], LEFT_SEED);
+    scatter(&mut arrays[SAVED], LEFT_SEED);
+    make(&mut arrays[SAVED], WORDS, Call::Format(6, 2, ALL_STORES));
+    let mut roll = from_seed(LEFT_SEED);
+    for _ in 0..LEFT_STEPS {
+        roll = next(roll);
+        let call = call_for(&arrays[TABLE], roll);
+        make(&mut arrays[SAVED], WORDS, call);
+        make(&mut arrays[SAVED], WORDS, Call::Mend(ALL_STORES));
+    }
+}
+
+// One call of a run that is to be saved.
+fn grow(key: u64, roll: u64) -> Call {
+    match roll % 8 {
+        0 => Call::Put(key, roll, (roll / 1024 % 128) as u32),
+        1 => Call::Remove(key, ALL_STORES),
+        2 => Call::Mend(ALL_STORES),
+        _ => Call::Put(key, roll, ALL_STORES),
+    }
+}
+
+// A run to be saved, from a format on. What the array holds before is left from another run.
+fn prepare(words: &mut Cells, setting: Setting) {
+    make(
+        words,
+        WORDS,
+        Call::Format(
+            setting.max_depth as u64,
+            setting.segments as u64,
+            ALL_STORES,
+        ),
+    );
+    let mut roll = from_seed(setting.number);
+    for _ in 0..BASE_STEPS {
+        roll = next(roll);
+        make(words, WORDS, grow(key_of(setting.number, roll / 16), roll));
+    }
+}
+
+// The fields of word 0.
+struct Shape {
+    depth: u32,
+    max_depth: u32,
+    segments: u32,
+}
+
+// The shape that word 0 gives.
+fn shape_in(first: u64) -> Shape {
+    Shape {
+        depth: (first % 256) as u32,
+        max_depth: (first / MAX_DEPTH_UNIT % 256) as u32,
+        segments: (first / SEGMENTS_UNIT % 65536) as u32,
+    }
+}
+
+// Word 0 with one field more or less by one, or another word.
+fn spoiled_first(first: u64, roll: u64) -> u64 {
+    match roll % 10 {
+        0 => wrapping_add_u64(first, 1),
+        1 => wrapping_sub_u64(first, 1),
+        2 => wrapping_add_u64(first, MAX_DEPTH_UNIT),
+        3 => wrapping_sub_u64(first, MAX_DEPTH_UNIT),
+        4 => wrapping_add_u64(first, SEGMENTS_UNIT),
+        5 => wrapping_sub_u64(first, SEGMENTS_UNIT),
+        6 => wrapping_add_u64(first, UPPER_HALF),
+        7 => first % SEGMENTS_UNIT + first / UPPER_HALF % UPPER_HALF * UPPER_HALF,
+        8 => first / MAX_DEPTH_UNIT * MAX_DEPTH_UNIT + roll / 16 % 14,
+        _ => roll,
+    }
+}
+
+// An entry spoiled: its depth or segment more or less by one, out of range, another in range, or
+// another entry's word.
+fn spoiled_entry(entry: u64, other: u64, shape: Shape, roll: u64) -> u64 {
+    let depths = entry / UPPER_HALF * UPPER_HALF;
+    let segment = below(roll / 65536, shape.segments) as u64;
+    match roll % 8 {
+        0 => wrapping_add_u64(entry, UPPER_HALF),
+        1 => wrapping_sub_u64(entry, UPPER_HALF),
+        2 => wrapping_add_u64(entry, 1),
+        3 => other,
+        4 => wrapping_add_u64(depths, shape.segments as u64),
+        5 => (shape.depth as u64 % 256 + 1) * UPPER_HALF + entry % UPPER_HALF,
+        6 => wrapping_add_u64(depths, segment),
+        _ => below(roll / 4096, shape.depth % 256 + 1) as u64 * UPPER_HALF + segment,
+    }
+}
+
+// Spoils an entry of the directory.
+fn spoil_entry(words: &mut Cells, shape: Shape, roll: u64) {
+    let count = power(shape.depth);
+    let at = count as usize + below(roll / 8, count) as usize;
+    let other = word_at(words, count as usize + below(roll / 65536, count) as usize);
+    let entry = word_at(words, at);
+    set_word(words, at, spoiled_entry(entry, other, shape, roll));
+}
+
+// Spoils a slot: a stray key, a second copy of its record nearby, no key, or any key.
+fn spoil_slot(words: &mut Cells, stray: u64, shape: Shape, roll: u64) {
+    let base = words_before(shape.max_depth, below(roll / 8, shape.segments));
+    let slot = (roll / 65536 % 64) as usize;
+    let near = (slot + (roll / 4194304 % 8) as usize) % 64;
+    let key = word_at(words, base + 2 * near);
+    let value = word_at(words, base + 2 * near + 1);
+    let spoiled = match roll % 4 {
+        0 => stray,
+        1 => key,
+        2 => 0,
+        _ => roll,
+    };
+    set_word(words, base + 2 * slot, spoiled);
+    set_word(words, base + 2 * slot + 1, wrapping_add_u64(value, 1));
+}
+
+// Spoils one place of an array, or none.
+fn spoil(words: &mut Cells, stray: u64, shape: Shape, roll: u64) {
+    match roll % 16 {
+        0..=1 => {
+            let first = word_at(words, 0);
+            set_word(words, 0, spoiled_first(first, roll / 16));
+        }
+        2..=9 => spoil_entry(words, shape, roll / 16),
+        10..=14 => spoil_slot(words, stray, shape, roll / 16),
+        _ => {}
+    }
+}
+
+// The allowance of a call on a damaged array: few stores, some, or all.
+fn allowance_for(roll: u64) -> u32 {
+    match roll % 4 {
+        0 => (roll / 4 % 4) as u32,
+        1 => (roll / 4 % 200) as u32,
+        _ => ALL_STORES,
+    }
+}
+
+// A key of the saved run, or now and then no key.
+fn key_for(run: u64, roll: u64) -> u64 {
+    if roll % 12 == 0 {
+        return 0;
+    }
+    key_of(run, roll / 16)
+}
+
+// A format on a damaged array: often of a small shape, at times of one that is refused.
+fn any_format(roll: u64) -> Call {
+    let allowance = (roll / 4096 % 80) as u32;
+    if roll % 4 == 0 {
+        return Call::Format(roll / 4 % 15, roll / 64 % 40, allowance);
+    }
+    Call::Format(2 + roll / 4 % 3, 1 + roll / 64 % 4, allowance)
+}
+
+// A random call on a damaged array.
+fn any_call(run: u64, roll: u64) -> Call {
+    let key = key_for(run, roll / 16);
+    let allowance = allowance_for(roll / 65536);
+    match roll % 16 {
+        0..=4 => Call::Put(key, roll, allowance),
+        5..=7 => Call::Remove(key, allowance),
+        8..=10 => Call::Get(key),
+        11..=12 => Call::Mend(allowance),
+        13..=14 => Call::List((roll / 65536 % 256) as usize),
+        _ => any_format(roll / 16),
+    }
+}
+
+// The calls on a damaged array.
+fn call_on(arrays: &mut Arrays, run: u64, seed: u64) {
+    let mut roll = seed;
+    for _ in 0..CALLS_PER_DAMAGE {
+        roll = next(roll);
+        compare(arrays, any_call(run, roll));
+    }
+}
+
+// How many words are lent: those needed, all but one of them, or some more.
+fn lent_for(needed: usize, roll: u64) -> usize {
+    let length = needed % WORDS;
+    match roll % 8 {
+        0 => if length == 0 { 0 } else { length - 1 },
+        1 => length + 1,
+        2 | 3 => length + WORDS_BEHIND,
+        _ => length,
+    }
+}
+
+// Spoils the index's array in two places or one.
+fn spoil_twice(words: &mut Cells, run: u64, roll: u64) {
+    let shape = shape_in(word_at(words, 0));
+    let second = next(roll);
+    spoil(words, key_of(run, roll / 67108864), shape, roll / 8);
+    spoil(words, key_of(run, second / 67108864), shape, second);
+}
+
+// One damaged array: the saved one, spoiled.
+fn damage_once(arrays: &mut Arrays, setting: Setting, roll: u64) {
+    arrays[INDEX] = arrays[SAVED];
+    spoil_twice(&mut arrays[INDEX], setting.number, roll);
+    arrays[MODEL] = arrays[INDEX];
+    let needed = words_before(setting.max_depth, setting.segments);
+    begin_case(arrays, lent_for(needed, roll));
+    call_on(arrays, setting.number, roll);
+}
+
+// One saved run and its damages.
+fn damage_base(arrays: &mut Arrays, setting: Setting) {
+    prepare(&mut arrays[SAVED], setting);
+    let mut roll = from_seed(wrapping_add_u64(setting.number, 1));
+    for _ in 0..DAMAGES {
+        roll = next(roll);
+        damage_once(arrays, setting, roll);
+    }
+}
+
+// The shape of a saved run, by its number: all segments that its depth allows, or three quarters.
+fn setting_for(number: u64) -> Setting {
+    let max_depth = 2 + (number % 4) as u32;
+    let most = power(max_depth);
+    let segments = if number / 4 % 2 == 0 {
+        most
+    } else {
+        most - most / 4
+    };
+    Setting {
+        max_depth,
+        segments,
+        number,
+    }
+}
+
+// All saved runs and their damages.
+fn test_damage(arrays: &mut Arrays) {
+    leave_run(arrays);
+    for number in 0..BASES {
+        damage_base(arrays, setting_for(number));
+    }
+}
+
+// The family, then its table.
+fn main() {
+    let mut arrays = [[0u64; CELLS]; ARRAYS];
+    test_damage(&mut arrays);
+    write_table(&arrays[TALLY], b"3 damage      ");
+}

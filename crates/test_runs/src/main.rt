@@ -1,0 +1,187 @@
+// Family 2 of the test: long runs by document 01's rule, at the depths 2 to 6, with keys that collide.
+// Puts that split are cut at every number of their stores, mended and made again. After each step every
+// key is looked up and compared with the plain table.
+mod table;
+
+use index_compare::arrays::ARRAYS;
+use index_compare::arrays::Arrays;
+use index_compare::arrays::INDEX;
+use index_compare::arrays::MODEL;
+use index_compare::arrays::SAVED;
+use index_compare::arrays::TABLE;
+use index_compare::arrays::TALLY;
+use index_compare::compare::ALL_STORES;
+use index_compare::compare::compare;
+use index_compare::generator::from_seed;
+use index_compare::generator::next;
+use index_compare::generator::scatter;
+use index_compare::report::write_table;
+use index_compare::runs::call_for;
+use index_compare::runs::draw_keys;
+use index_compare::runs::entry_for;
+use index_compare::tally::begin_case;
+use index_model::CUT_OFF;
+use index_model::Call;
+use index_model::DONE;
+use index_model::array::power;
+use index_model::array::words_before;
+use index_model::words::CELLS;
+use table::look_up_all;
+use table::tell;
+
+// The runs, those at each depth, and the steps of a run.
+const RUNS: u32 = 160;
+
+const RUNS_PER_DEPTH: u32 = 32;
+
+const STEPS: u32 = 160;
+
+// A run: its largest depth and segments, and its first random number.
+struct Setting {
+    max_depth: u32,
+    segments: u32,
+    seed: u64,
+}
+
+// The segments of a run: all that its depth allows, three quarters, half, or a few.
+fn segments_for(max_depth: u32, run: u32) -> u32 {
+    let most = power(max_depth);
+    match run / 4 % 4 {
+        0 => most,
+        1 => most - most / 4,
+        2 => most / 2,
+        _ => 1 + run % 3,
+    }
+}
+
+// What a run is given, by its number: the depths rise from 2.
+fn setting_for(number: u32) -> Setting {
+    let max_depth = 2 + number / RUNS_PER_DEPTH;
+    let run = number % RUNS_PER_DEPTH;
+    Setting {
+        max_depth,
+        segments: segments_for(max_depth, run),
+        seed: max_depth as u64 * 64 + run as u64,
+    }
+}
+
+// Mends until a mend is done, the first two with this allowance.
+fn recover(arrays: &mut Arrays, allowance: u32) {
+    if compare(arrays, Call::Mend(allowance)).reply != CUT_OFF {
+        return;
+    }
+    if compare(arrays, Call::Mend(allowance)).reply != CUT_OFF {
+        return;
+    }
+    compare(arrays, Call::Mend(ALL_STORES));
+}
+
+// The index's and the model's array as saved.
+fn restore(arrays: &mut Arrays) {
+    arrays[INDEX] = arrays[SAVED];
+    arrays[MODEL] = arrays[SAVED];
+}
+
+// A put cut after `allowance` stores, the mends behind it, a lookup of every key, and the put again.
+fn cut_once(arrays: &mut Arrays, key: u64, value: u64, allowance: u32) {
+    restore(arrays);
+    compare(arrays, Call::Put(key, value, allowance));
+    recover(arrays, allowance % 3);
+    look_up_all(arrays);
+    compare(arrays, Call::Put(key, value, ALL_STORES));
+}
+
+// A put cut at every number of its stores, and then made whole.
+fn cut_everywhere(arrays: &mut Arrays, key: u64, value: u64, stores: u32) {
+    for allowance in 0..stores {
+        cut_once(arrays, key, value, allowance);
+    }
+    restore(arrays);
+    compare(arrays, Call::Put(key, value, ALL_STORES));
+}
+
+// A put that all its stores are allowed. One that splits, and one in eight others, is cut everywhere
+// first.
+fn put_step(arrays: &mut Arrays, entry: usize, call: Call) {
+    let Call::Put(key, value, _) = call else {
+        return;
+    };
+    arrays[SAVED] = arrays[INDEX];
+    let whole = compare(arrays, call);
+    if 2 < whole.stores || value % 8 == 0 {
+        cut_everywhere(arrays, key, value, whole.stores);
+    }
+    if whole.reply == DONE {
+        tell(&mut arrays[TABLE], entry, call);
+    }
+}
+
+// The allowance of the mends behind a call that was cut.
+fn mend_allowance(call: Call) -> u32 {
+    match call {
+        Call::Put(_, value, _) => (value % 2) as u32,
+        _ => 0,
+    }
+}
+
+// A call, and the mends that a cut calls for.
+fn call_step(arrays: &mut Arrays, entry: usize, call: Call) {
+    let seen = compare(arrays, call);
+    if seen.reply == CUT_OFF {
+        recover(arrays, mend_allowance(call));
+    }
+    if seen.reply == DONE {
+        tell(&mut arrays[TABLE], entry, call);
+    }
+}
+
+// One step of a run, by a random number.
+fn step(arrays: &mut Arrays, roll: u64) {
+    let call = call_for(&arrays[TABLE], roll);
+    match roll % 16 {
+        0..=7 => put_step(arrays, entry_for(roll), call),
+        12 => recover(arrays, (roll / 1024 % 2) as u32),
+        _ => call_step(arrays, entry_for(roll), call),
+    }
+}
+
+// The steps of a run, with a lookup of every key behind each.
+fn take_steps(arrays: &mut Arrays, seed: u64) {
+    let mut roll = from_seed(seed);
+    for _ in 0..STEPS {
+        roll = next(roll);
+        step(arrays, roll);
+        look_up_all(arrays);
+    }
+}
+
+// A run on arrays of just its words, from a format on.
+fn run(arrays: &mut Arrays, setting: Setting) {
+    begin_case(arrays, words_before(setting.max_depth, setting.segments));
+    draw_keys(&mut arrays[TABLE], setting.seed);
+    scatter(&mut arrays[INDEX], setting.seed);
+    arrays[MODEL] = arrays[INDEX];
+    compare(
+        arrays,
+        Call::Format(
+            setting.max_depth as u64,
+            setting.segments as u64,
+            ALL_STORES,
+        ),
+    );
+    take_steps(arrays, setting.seed);
+}
+
+// All runs.
+fn test_runs(arrays: &mut Arrays) {
+    for number in 0..RUNS {
+        run(arrays, setting_for(number));
+    }
+}
+
+// The family, then its table.
+fn main() {
+    let mut arrays = [[0u64; CELLS]; ARRAYS];
+    test_runs(&mut arrays);
+    write_table(&arrays[TALLY], b"2 runs        ");
+}
