@@ -25,26 +25,26 @@ use Rattle.desk_run.specs.Progress.{LineRan, LinesRan, NextRan, OutputWr
 
 -- ---- One line
 
-module _ (line : List ℕ) (room : ℕ) (a : List ℕ) (at : ℕ) (out : List ℕ) (next : ℕ) (out′ : List ℕ) where
-  pub line-other : callOf line ≡ none → Written otherLine at out next out′ → LineRan line room a at out next a out′
+module _ (line list a : List ℕ) (at : ℕ) (out : List ℕ) (next : ℕ) (out′ : List ℕ) where
+  pub line-other : callOf line ≡ none → Written otherLine at out next out′ → LineRan line list a at out next a out′
   unfolding ranCall
   line-other e w = record { text = rw e w; words = rw e; short = omega (arith, w .behind) }
 
-  pub line-called : (letter : ℕ) (call : Call) (l : List ℕ) (answer : Answer) (a′ l′ : List ℕ) → callOf line ≡ some (spoken letter call) → room ≡ length l
-      → Performed call a l answer a′ l′
+  pub line-called : (letter : ℕ) (call : Call) (answer : Answer) (a′ list′ : List ℕ) → callOf line ≡ some (spoken letter call)
+      → Performed call a list answer a′ list′
       → Written (answerLine letter (saidBy (answer .reply)) (answer .stores)) at out next out′
-      → LineRan line room a at out next a′ out′
+      → LineRan line list a at out next a′ out′
   unfolding ranCall
-  line-called letter call l answer a′ l′ e size p w =
+  line-called letter call answer a′ list′ e p w =
       record {
-        text = rw (e, size) (rw (p .reply, p .stores) at w);
-        words = rw (e, size) (p .words);
+        text = rw e (rw (p .reply, p .stores) at w);
+        words = rw e (p .words);
         short = omega (arith, w .behind, length-answer letter (answer .reply) (answer .stores));
       }
 
 -- ---- The next line of a script
 
-module _ (script : List ℕ) (from start end : ℕ) (n : NextLine script from start end) (room : ℕ) (a : List ℕ) (at : ℕ) (out : List ℕ) where
+module _ (script : List ℕ) (from start end : ℕ) (n : NextLine script from start end) (list a : List ℕ) (at : ℕ) (out : List ℕ) where
   -- A line is left: there is room for its text, and it is run.
   module _ (some-byte : start ≡ end → ⊥) where
     one-more : linesOf (drop from script) ≡ take (end - start) (drop start script) ∷ linesOf (drop end script)
@@ -55,15 +55,15 @@ module _ (script : List ℕ) (from start end : ℕ) (n : NextLine script from st
     pub next-room : at + lineRoom * length (linesOf (drop from script)) ≤ length out → at + lineRoom ≤ length out
     next-room h = let more = rw one-more at h in omega arith
 
-    pub next-ran : (at′ : ℕ) (a′ out′ : List ℕ) → LineRan (take (end - start) (drop start script)) room a at out at′ a′ out′
-        → NextRan script from room a at out (record { next = end; written = at′ }) a′ out′
+    pub next-ran : (at′ : ℕ) (a′ out′ : List ℕ) → LineRan (take (end - start) (drop start script)) list a at out at′ a′ out′
+        → NextRan script from list a at out (record { next = end; written = at′ }) a′ out′
     unfolding ranLines
     next-ran at′ a′ out′ r =
         let ordered : start ≤ end = n .ordered in
         record {
           ran =
               record {
-                part = (ranCall room a (callOf (take (end - start) (drop start script)))) .text;
+                part = (ranCall (length list) a (callOf (take (end - start) (drop start script)))) .text;
                 written = r .text;
                 text = rw (one-more, r .words);
                 room-left = rw one-more (omega (arith, r .short));
@@ -73,7 +73,7 @@ module _ (script : List ℕ) (from start end : ℕ) (n : NextLine script from st
         }
 
   -- No line is left.
-  pub next-none : start ≡ end → NextRan script from room a at out (record { next = end; written = at }) a out
+  pub next-none : start ≡ end → NextRan script from list a at out (record { next = end; written = at }) a out
   next-none same =
       let last : end ≡ length script = n .none-left same in
       let over : linesOf (drop end script) ≡ [] = rw (last, drop-length script) lines-none in

@@ -11,11 +11,10 @@ use Rattle.desk_text.specs.Output.{lineRoom}
 use Rattle.desk_run.specs.declared.Progress.{Progress}
 use Rattle.desk_run.specs.Run.{ranCall, ranLines, deskOutput}
 
--- One line has been run on the index array a, with a list array of `room` words: its text stands in the output from position
--- `at` on.
-pub record LineRan (line : List ℕ) (room : ℕ) (a : List ℕ) (at : ℕ) (out : List ℕ) (next : ℕ) (a′ out′ : List ℕ) : Type 0 where
-  pub text : Written ((ranCall room a (callOf line)) .text) at out next out′
-  pub words : a′ ≡ (ranCall room a (callOf line)) .words
+-- One line has been run on the index array a, with the list array: its text stands in the output from position `at` on.
+pub record LineRan (line list a : List ℕ) (at : ℕ) (out : List ℕ) (next : ℕ) (a′ out′ : List ℕ) : Type 0 where
+  pub text : Written ((ranCall (length list) a (callOf line)) .text) at out next out′
+  pub words : a′ ≡ (ranCall (length list) a (callOf line)) .words
   pub short : next ≤ at + lineRoom
 
 -- Lines of the script have been run from position `from` to position `next`: what the lines from `from` on give is the part
@@ -28,8 +27,8 @@ pub record LinesRan (script : List ℕ) (from room : ℕ) (a : List ℕ) (at : �
   pub room-left : at′ + lineRoom * length (linesOf (drop next script)) ≤ at + lineRoom * length (linesOf (drop from script))
 
 -- The next line of the script from position `from` on has been run, if one is left, and the position has moved on.
-pub record NextRan (script : List ℕ) (from room : ℕ) (a : List ℕ) (at : ℕ) (out : List ℕ) (r : Progress) (a′ out′ : List ℕ) : Type 0 where
-  pub ran : LinesRan script from room a at out (r .next) (r .written) a′ out′
+pub record NextRan (script : List ℕ) (from : ℕ) (list a : List ℕ) (at : ℕ) (out : List ℕ) (r : Progress) (a′ out′ : List ℕ) : Type 0 where
+  pub ran : LinesRan script from (length list) a at out (r .next) (r .written) a′ out′
   pub forward : from < length script → from < r .next
   pub within : r .next ≤ length script
 

@@ -36,7 +36,7 @@ struct Progress {
 // Runs one line on the index, and writes its line of output from position `at` on.
 fn run_line(line: &[u8], words: &mut [u64], list: &mut [u64], out: &mut [u8], at: usize) -> usize
     requires { ⌜ at + lineRoom ≤ length (now out) ⌝ }
-    ensures { λ r. ⌜ LineRan (now (line .entry)) (length (now (list .entry))) (now (words .entry)) at (now (out .entry)) r (now (words .exit)) (now (out .exit)) ⌝ }
+    ensures { λ r. ⌜ LineRan (now (line .entry)) (now (list .entry)) (now (words .entry)) at (now (out .entry)) r (now (words .exit)) (now (out .exit)) ⌝ }
 {
     let Line::Called { letter, call } = read_line(line) else {
         return write_other(out, at);
@@ -55,7 +55,7 @@ fn run_next(
     at: usize,
 ) -> Progress
     requires { ⌜ at + lineRoom * length (linesOf (drop from (now script))) ≤ length (now out) ⌝ }
-    ensures { λ r. ⌜ NextRan (now (script .entry)) from (length (now (list .entry))) (now (words .entry)) at (now (out .entry)) r (now (words .exit)) (now (out .exit)) ⌝ }
+    ensures { λ r. ⌜ NextRan (now (script .entry)) from (now (list .entry)) (now (words .entry)) at (now (out .entry)) r (now (words .exit)) (now (out .exit)) ⌝ }
 {
     let line = next_line(script, from);
     let start = line.start;

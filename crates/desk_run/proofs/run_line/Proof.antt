@@ -43,7 +43,7 @@ same-length-4 c = search needs
 
 returns-2 : tie.Need-returns-2
 returns-2 c =
-    line-called _ _ _ _ _ _ _ _ _ _ _ _ _ (sym (c .before .before .before .before .before .before .before .before .before .before .before .before .before .before .read-line .ensures) ∙ ap lineSaid (c .before .before .before .before .before .before .before .before .before .before .before .before .letter .given .1)) refl
+    line-called _ _ _ _ _ _ _ _ _ _ _ _ (sym (c .before .before .before .before .before .before .before .before .before .before .before .before .before .before .read-line .ensures) ∙ ap lineSaid (c .before .before .before .before .before .before .before .before .before .before .before .before .letter .given .1))
     (c .before .before .before .before .before .before .before .before .perform .ensures) (c .before .before .write-answer .ensures)
 
 pub run-line-spec : {M : Type 1} → statement M

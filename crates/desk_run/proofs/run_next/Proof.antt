@@ -1,6 +1,5 @@
 -- `desk_run::run_next` meets its contract.
 -- Assumes nothing.
-use lib.ListN.{length}
 use borrow.Author.Needs.{needs}
 use Rattle.desk_run.proofs.Runs.{next-room, next-ran, next-none}
 use Rattle.desk_run.proofs.run_next.Statement.{statement}
@@ -23,7 +22,7 @@ part-run-line-end : tie.Need-part-run-line-end
 part-run-line-end c = search needs
 
 run-line-requires : tie.Need-run-line-requires
-run-line-requires c κs = next-room _ _ _ _ (c .before .before .before .before .before .next-line .ensures) (length (c .before .before .before .before .before .before .before .before .before .before .args .list .now)) (c .before .before .before .before .before .before .before .before .before .before .args .words .now) _ (c .before .before .before .before .before .before .before .before .before .before .args .out .now) (c .before .before .before .before .if1 .left) (c .before .before .before .before .before .before .before .before .before .before .pre)
+run-line-requires c κs = next-room _ _ _ _ (c .before .before .before .before .before .next-line .ensures) (c .before .before .before .before .before .before .before .before .before .before .args .list .now) (c .before .before .before .before .before .before .before .before .before .before .args .words .now) _ (c .before .before .before .before .before .before .before .before .before .before .args .out .now) (c .before .before .before .before .if1 .left) (c .before .before .before .before .before .before .before .before .before .before .pre)
 
 same-length : tie.Need-same-length
 same-length c = search needs
