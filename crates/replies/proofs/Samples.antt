@@ -1,4 +1,4 @@
--- The numbers of document 01's table, what counts as done, and calls cut off: computed from the definitions.
+-- The numbers of document 01's table, what counts as done, and calls cut off. antt computes each from the definitions.
 -- Assumes nothing.
 use Prim.Native.Nat.{ℕ}
 use mathlib.Core.Path.{_≡_, refl}
