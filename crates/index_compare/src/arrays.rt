@@ -1,6 +1,6 @@
 // The arrays of the test, lent as one: that of the index, that of the model, a saved one, the plain
 // table, and the counts. All have one length and keep it by their type.
-use index_model::words::Cells;
+use model_array::words::Cells;
 
 pub const ARRAYS: usize = 5;
 

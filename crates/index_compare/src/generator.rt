@@ -1,8 +1,8 @@
 // A seeded generator of 64-bit numbers: xorshift, with the shifts 13, 7 and 17. A user draws one
 // number for each step and takes it apart.
-use index_model::words::Cells;
-use index_model::words::WORDS;
-use index_model::words::set_word;
+use model_array::words::Cells;
+use model_array::words::WORDS;
+use model_array::words::set_word;
 ghost use Prim.Native.Nat.{_≤_};
 
 // The weight of a key's own number in it, above every bit that the index reads.

@@ -1,9 +1,9 @@
 // The list array of the index beside the model's records: whether it holds the same records, in any
 // order, and nothing behind them.
-use index_model::words::Cells;
-use index_model::words::WORDS;
-use index_model::words::set_word;
-use index_model::words::word_at;
+use model_array::words::Cells;
+use model_array::words::WORDS;
+use model_array::words::set_word;
+use model_array::words::word_at;
 
 // What each word holds before a list.
 pub(crate) const LIST_FILL: u64 = 0xABABABABABABABAB;

@@ -1,9 +1,9 @@
 // The table on standard output. Every number in it was counted.
 use crate::tally::COLUMNS;
 use crate::tally::REPLIES;
-use index_model::words::Cells;
-use index_model::words::word_at;
 use libc::STDOUT_FILENO;
+use model_array::words::Cells;
+use model_array::words::word_at;
 
 // The width of a column of numbers.
 const WIDTH: u32 = 12;

@@ -4,10 +4,10 @@ use crate::generator::from_seed;
 use crate::generator::next;
 use crate::generator::own_key;
 use index_model::Call;
-use index_model::words::Cells;
-use index_model::words::WORDS;
-use index_model::words::set_word;
-use index_model::words::word_at;
+use model_array::words::Cells;
+use model_array::words::WORDS;
+use model_array::words::set_word;
+use model_array::words::word_at;
 use std::num::wrapping_add_usize;
 
 // The keys of a run. Each has an entry of three words in the table: the key, whether it has a value, and

@@ -3,9 +3,9 @@
 // in order, each as address and value.
 use crate::CUT_OFF;
 use crate::Outcome;
-use crate::words::Cells;
-use crate::words::WORDS;
-use crate::words::set_word;
+use model_array::words::Cells;
+use model_array::words::WORDS;
+use model_array::words::set_word;
 use std::num::wrapping_add_usize;
 
 // Where the notes stand.

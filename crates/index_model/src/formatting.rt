@@ -2,14 +2,14 @@
 use crate::BAD_SHAPE;
 use crate::DONE;
 use crate::TOO_SHORT;
-use crate::array::SLOTS;
-use crate::array::Shape;
-use crate::array::first_word;
-use crate::array::key_address;
-use crate::array::shape_from;
-use crate::array::words_before;
 use crate::draft::note;
-use crate::words::Cells;
+use model_array::array::SLOTS;
+use model_array::array::Shape;
+use model_array::array::first_word;
+use model_array::array::key_address;
+use model_array::array::shape_from;
+use model_array::array::words_before;
+use model_array::words::Cells;
 
 // The stores of a format, in document 01's order: word 0 and the entry of depth 0 become 0, the keys of
 // segment 0 too, and then word 0 is made sound.

@@ -3,9 +3,7 @@
 // stores on a copy and notes each, whatever the allowance; then the first noted stores, as many as are
 // allowed, are made on the array. Blocks and used segments are found by marking.
 //
-// An index is the first `length` words of an array of the type `words::Cells`.
-pub mod array;
-mod blocks;
+// An index is the first `length` words of an array of the type `Cells`.
 mod draft;
 mod formatting;
 pub mod listing;
@@ -13,25 +11,24 @@ mod mending;
 mod placing;
 mod putting;
 mod removing;
-mod route;
+mod scan;
 mod splitting;
-pub mod words;
 
-use array::shape_of;
-use blocks::block_of;
-use blocks::is_in_range;
-use blocks::value_in;
 use draft::carry_out;
 use draft::draft_of;
 use draft::note_found;
 use formatting::plan_format;
 use listing::plan_list;
 use mending::plan_mend;
+use model_array::array::shape_of;
+use model_array::blocks::block_of;
+use model_array::blocks::is_in_range;
+use model_array::blocks::value_in;
+use model_array::words::Cells;
 use placing::NO_SLOT;
 use placing::find_key;
 use putting::plan_put;
 use removing::plan_remove;
-use words::Cells;
 
 // The model's replies: done, document 01's refusals by their numbers, and absent, which has no number there.
 pub const DONE: u32 = 0;

@@ -2,20 +2,20 @@
 use crate::DONE;
 use crate::NO_STORE;
 use crate::SHORT_LIST;
-use crate::array::SLOTS;
-use crate::array::Shape;
-use crate::array::power;
-use crate::array::shape_of;
-use crate::blocks::Block;
-use crate::blocks::block_at;
-use crate::blocks::key_in;
-use crate::blocks::value_in;
-use crate::blocks::verdict_of;
 use crate::draft::note_found;
-use crate::route::is_live;
-use crate::words::CELLS;
-use crate::words::Cells;
-use crate::words::append;
+use crate::scan::verdict_of;
+use model_array::array::SLOTS;
+use model_array::array::Shape;
+use model_array::array::power;
+use model_array::array::shape_of;
+use model_array::blocks::Block;
+use model_array::blocks::block_at;
+use model_array::blocks::key_in;
+use model_array::blocks::value_in;
+use model_array::route::is_live;
+use model_array::words::CELLS;
+use model_array::words::Cells;
+use model_array::words::append;
 
 // Puts the records of a block that are live, key then value, behind those of the row.
 fn collect_block(words: &Cells, block: Block, row: &mut Cells) {

@@ -2,15 +2,15 @@
 use crate::BROKEN;
 use crate::DONE;
 use crate::NO_STORE;
-use crate::array::entry_address;
-use crate::array::entry_at;
-use crate::array::power;
-use crate::array::shape_of;
-use crate::blocks::leading_entry;
-use crate::blocks::mark_blocks;
 use crate::draft::note;
-use crate::words::CELLS;
-use crate::words::Cells;
+use crate::scan::leading_entry;
+use crate::scan::mark_blocks;
+use model_array::array::entry_address;
+use model_array::array::entry_at;
+use model_array::array::power;
+use model_array::array::shape_of;
+use model_array::words::CELLS;
+use model_array::words::Cells;
 
 // Mends the entries from left to right, by the marks of their blocks: one that is unequal to its leader
 // gets the leader's word.

@@ -1,9 +1,9 @@
 // The search for a key, and for a slot that can take it.
-use crate::blocks::Block;
-use crate::blocks::key_in;
-use crate::route::is_live;
-use crate::route::window_slot;
-use crate::words::Cells;
+use model_array::blocks::Block;
+use model_array::blocks::key_in;
+use model_array::route::is_live;
+use model_array::route::window_slot;
+use model_array::words::Cells;
 
 // The slots of a window.
 const WINDOW_SLOTS: u32 = 16;

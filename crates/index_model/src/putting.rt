@@ -2,20 +2,20 @@
 use crate::DONE;
 use crate::NO_SEGMENT;
 use crate::TOO_DEEP;
-use crate::array::key_address;
-use crate::blocks::Block;
-use crate::blocks::block_of;
-use crate::blocks::tests_of_change;
 use crate::draft::note;
 use crate::draft::note_record;
 use crate::placing::NO_SLOT;
 use crate::placing::find_key;
 use crate::placing::find_room;
+use crate::scan::tests_of_change;
 use crate::splitting::NO_SEGMENT_NUMBER;
 use crate::splitting::divide;
 use crate::splitting::double;
 use crate::splitting::free_number;
-use crate::words::Cells;
+use model_array::array::key_address;
+use model_array::blocks::Block;
+use model_array::blocks::block_of;
+use model_array::words::Cells;
 
 // The attempts that a put can need: a split for each depth, and the last one.
 const ATTEMPTS: u32 = 13;

@@ -1,13 +1,13 @@
 // The plan of a remove.
 use crate::ABSENT;
 use crate::DONE;
-use crate::array::key_address;
-use crate::blocks::block_of;
-use crate::blocks::tests_of_change;
 use crate::draft::note;
 use crate::placing::NO_SLOT;
 use crate::placing::find_key;
-use crate::words::Cells;
+use crate::scan::tests_of_change;
+use model_array::array::key_address;
+use model_array::blocks::block_of;
+use model_array::words::Cells;
 
 // Plans a remove, if nothing is in the way: the key word at the first slot that holds the key becomes 0.
 pub(crate) fn plan_remove(draft: &mut Cells, length: usize, key: u64) -> u32 {

@@ -21,11 +21,11 @@ use index_model::Outcome;
 use index_model::TOO_DEEP;
 use index_model::TOO_SHORT;
 use index_model::UNMENDED;
-use index_model::array::words_before;
-use index_model::words::CELLS;
-use index_model::words::Cells;
-use index_model::words::set_word;
-use index_model::words::word_at;
+use model_array::array::words_before;
+use model_array::words::CELLS;
+use model_array::words::Cells;
+use model_array::words::set_word;
+use model_array::words::word_at;
 use std::num::wrapping_add_u64;
 
 // The allowance of the states, and the words for D = 2, S = 4.

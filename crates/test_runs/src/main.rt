@@ -23,9 +23,9 @@ use index_compare::tally::begin_case;
 use index_model::CUT_OFF;
 use index_model::Call;
 use index_model::DONE;
-use index_model::array::power;
-use index_model::array::words_before;
-use index_model::words::CELLS;
+use model_array::array::power;
+use model_array::array::words_before;
+use model_array::words::CELLS;
 use table::look_up_all;
 use table::tell;
 

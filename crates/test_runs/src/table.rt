@@ -9,9 +9,9 @@ use index_compare::tally::LOOKUPS;
 use index_compare::tally::count;
 use index_compare::tally::expect;
 use index_model::Call;
-use index_model::words::Cells;
-use index_model::words::set_word;
-use index_model::words::word_at;
+use model_array::words::Cells;
+use model_array::words::set_word;
+use model_array::words::word_at;
 use replies::Reply;
 
 // Tells the table of a done call on the key of an entry: a put sets its value, whether it had one or not,

@@ -14,8 +14,8 @@ use index_compare::tally::begin_case;
 use index_compare::tally::expect;
 use index_model::Call;
 use index_model::DONE;
-use index_model::array::power;
-use index_model::words::CELLS;
+use model_array::array::power;
+use model_array::words::CELLS;
 use std::num::wrapping_add_u32;
 
 // The words for D = 12, S = 13.

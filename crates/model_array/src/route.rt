@@ -10,13 +10,13 @@ const BUCKETS: u64 = 16;
 const BUCKET_SLOTS: u32 = 4;
 
 // Route bit `number` of a key, the first being 0: bit 4 of the key and those above.
-pub(crate) fn route_bit(key: u64, number: u32) -> u64 {
+pub fn route_bit(key: u64, number: u32) -> u64 {
     key / BUCKETS / power(number) as u64 % 2
 }
 
 // The key's index in the directory of this depth: the weights of its route bits that are 1, the first
 // bit being the heaviest.
-pub(crate) fn index_at(key: u64, depth: u32) -> u32 {
+pub fn index_at(key: u64, depth: u32) -> u32 {
     let mut index: u32 = 0;
     for number in 0..depth {
         let weight = power(depth - 1 - number);
@@ -28,7 +28,7 @@ pub(crate) fn index_at(key: u64, depth: u32) -> u32 {
 }
 
 // Whether a key is live in a block: it is not 0, and its index lies in the block.
-pub(crate) fn is_live(key: u64, block: Block) -> bool {
+pub fn is_live(key: u64, block: Block) -> bool {
     if key == 0 {
         return false;
     }
@@ -41,7 +41,7 @@ pub(crate) fn is_live(key: u64, block: Block) -> bool {
 
 // Slot `number` of a key's window, the first being 0. The slots of four buckets on, bucket 0
 // following 15, are sixteen slots on, slot 0 following 63.
-pub(crate) fn window_slot(key: u64, number: u32) -> u32 {
+pub fn window_slot(key: u64, number: u32) -> u32 {
     let first = (key % BUCKETS) as u32 * BUCKET_SLOTS;
     (first + number % SLOTS) % SLOTS
 }

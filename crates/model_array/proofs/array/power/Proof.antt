@@ -4,8 +4,8 @@ use Prim.Native.Nat.{_*_, _%_, _^_}
 use native.Mathlib.Nat.{one-mul}
 use native.Mathlib.Omega.{arith}
 use lib.Pow.{shl-exact, pow-mono, pow-pos}
-use Rattle.index_model.proofs.array.power.Statement.{statement}
-use Rattle.index_model.proofs.array.power.Tie as tie
+use Rattle.model_array.proofs.array.power.Statement.{statement}
+use Rattle.model_array.proofs.array.power.Tie as tie
 
 shifted : tie.Need-returns-2
 shifted c =

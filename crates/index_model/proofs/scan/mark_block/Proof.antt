@@ -1,7 +1,7 @@
 use borrow.Author.Needs.{needs}
 use Prim.Native.Nat.{_-_, _≤_}
-use Rattle.index_model.proofs.blocks.mark_block.Statement.{statement}
-use Rattle.index_model.proofs.blocks.mark_block.Tie as tie
+use Rattle.index_model.proofs.scan.mark_block.Statement.{statement}
+use Rattle.index_model.proofs.scan.mark_block.Tie as tie
 
 pub mark-block-spec : {M : Type 1} → statement M
 mark-block-spec =

@@ -1,7 +1,7 @@
 use borrow.Author.Needs.{needs}
 use Prim.Native.Nat.{_-_, _≤_}
-use Rattle.index_model.proofs.blocks.mark_blocks.Statement.{statement}
-use Rattle.index_model.proofs.blocks.mark_blocks.Tie as tie
+use Rattle.index_model.proofs.scan.mark_blocks.Statement.{statement}
+use Rattle.index_model.proofs.scan.mark_blocks.Tie as tie
 
 pub mark-blocks-spec : {M : Type 1} → statement M
 mark-blocks-spec =

@@ -1,7 +1,7 @@
 use borrow.Author.Needs.{needs}
 use Prim.Native.Nat.{_-_, _≤_}
-use Rattle.index_model.proofs.blocks.verdict_of.Statement.{statement}
-use Rattle.index_model.proofs.blocks.verdict_of.Tie as tie
+use Rattle.index_model.proofs.scan.verdict_of.Statement.{statement}
+use Rattle.index_model.proofs.scan.verdict_of.Tie as tie
 
 pub verdict-of-spec : {M : Type 1} → statement M
 verdict-of-spec =

@@ -27,7 +27,7 @@ pub fn set_word(cells: &mut Cells, at: usize, value: u64) {
 }
 
 // Puts a word behind those of a row. A row is an array whose word 0 says how many words follow it.
-pub(crate) fn append(row: &mut Cells, word: u64) {
+pub fn append(row: &mut Cells, word: u64) {
     let count = wrapping_add_u64(row[0], 1);
     set_word(row, count as usize, word);
     row[0] = count;

@@ -18,10 +18,10 @@ pub const LOCAL_DEPTH_UNIT: u64 = 4294967296;
 // The words and the slots of a segment.
 const SEGMENT_WORDS: usize = 128;
 
-pub(crate) const SLOTS: u32 = 64;
+pub const SLOTS: u32 = 64;
 
 // What word 0 says, and whether it is sound. All fields are 0 where it is not.
-pub(crate) struct Shape {
+pub struct Shape {
     pub sound: bool,
     pub depth: u32,
     pub max_depth: u32,
@@ -47,7 +47,7 @@ pub fn power(exponent: u32) -> u32
 }
 
 // The shape of these fields, if document 01 allows them: D 2 to 12, G at most D, S 1 to 2^D.
-pub(crate) fn shape_from(depth: u64, max_depth: u64, segments: u64) -> Shape {
+pub fn shape_from(depth: u64, max_depth: u64, segments: u64) -> Shape {
     if max_depth < 2 {
         return UNSOUND;
     }
@@ -81,7 +81,7 @@ pub fn words_before(max_depth: u32, segment: u32) -> usize
 
 // The shape that word 0 gives to an array of this length. It is sound only if the array has the words
 // for it; so no array of no words is.
-pub(crate) fn shape_of(words: &Cells, length: usize) -> Shape {
+pub fn shape_of(words: &Cells, length: usize) -> Shape {
     let first = word_at(words, 0);
     if first / MARK_UNIT != MARK {
         return UNSOUND;
@@ -98,7 +98,7 @@ pub(crate) fn shape_of(words: &Cells, length: usize) -> Shape {
 }
 
 // The word 0 of this shape.
-pub(crate) fn first_word(shape: Shape) -> u64 {
+pub fn first_word(shape: Shape) -> u64 {
     MARK * MARK_UNIT
         + shape.segments as u64 * SEGMENTS_UNIT
         + shape.max_depth as u64 * MAX_DEPTH_UNIT
@@ -106,32 +106,32 @@ pub(crate) fn first_word(shape: Shape) -> u64 {
 }
 
 // The address of an entry in the directory of this depth.
-pub(crate) fn entry_address(depth: u32, index: u32) -> usize {
+pub fn entry_address(depth: u32, index: u32) -> usize {
     power(depth) as usize + index as usize
 }
 
 // The entry at an index of the directory of this depth.
-pub(crate) fn entry_at(words: &Cells, depth: u32, index: u32) -> u64 {
+pub fn entry_at(words: &Cells, depth: u32, index: u32) -> u64 {
     word_at(words, entry_address(depth, index))
 }
 
 // An entry from its parts.
-pub(crate) fn entry_of(segment: u32, local_depth: u32) -> u64 {
+pub fn entry_of(segment: u32, local_depth: u32) -> u64 {
     local_depth as u64 * LOCAL_DEPTH_UNIT + segment as u64
 }
 
 // The segment number of an entry.
-pub(crate) fn segment_of(entry: u64) -> u32 {
+pub fn segment_of(entry: u64) -> u32 {
     (entry % LOCAL_DEPTH_UNIT) as u32
 }
 
 // The local depth of an entry.
-pub(crate) fn local_depth_of(entry: u64) -> u32 {
+pub fn local_depth_of(entry: u64) -> u32 {
     (entry / LOCAL_DEPTH_UNIT) as u32
 }
 
 // The address of a slot's key; its value is behind it.
-pub(crate) fn key_address(max_depth: u32, segment: u32, slot: u32) -> usize
+pub fn key_address(max_depth: u32, segment: u32, slot: u32) -> usize
     ensures { λ r. ⌜ r ≤ 2199023255552 ⌝ }
 {
     words_before(max_depth, segment) + 2 * (slot as usize)

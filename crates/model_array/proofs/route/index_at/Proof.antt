@@ -1,7 +1,7 @@
 use borrow.Author.Needs.{needs}
 use Prim.Native.Nat.{_-_, _≤_}
-use Rattle.index_model.proofs.route.index_at.Statement.{statement}
-use Rattle.index_model.proofs.route.index_at.Tie as tie
+use Rattle.model_array.proofs.route.index_at.Statement.{statement}
+use Rattle.model_array.proofs.route.index_at.Tie as tie
 
 pub index-at-spec : {M : Type 1} → statement M
 index-at-spec =
