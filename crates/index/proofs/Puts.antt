@@ -33,14 +33,13 @@ use Rattle.rules.specs.Step.{effect, step}
 use Rattle.rules.proofs.Keys.{index-shift}
 use Rattle.rules.proofs.Split.{Splittable, unused-falls}
 use Rattle.rules.proofs.Range.{hit-slot, usable-slot}
-use Rattle.rules.proofs.Put.{put-refused, put-found, put-into, put-too-deep, put-no-segment, put-again, put-splittable, choice-found, choice-into, free-below}
-use Rattle.directory.specs.declared.free.Free.{Free}
-use Rattle.directory.specs.declared.free.Free.the-variants.{Segment, Nothing}
-use Rattle.directory.specs.Frees.{freeOf}
+use Rattle.rules.proofs.Put.{put-refused, put-found, put-into, put-too-deep, put-no-segment, put-again, put-splittable, choice-found, choice-into}
 use Rattle.layout.specs.declared.place.Place.{Place}
 use Rattle.layout.proofs.Shapes.{bounds}
 use Rattle.layout.proofs.Places.{place-bounds}
-use Rattle.structure.specs.Splits.{CanSplit}
+use Rattle.structure.specs.declared.split.SplitAnswer.{SplitAnswer}
+use Rattle.structure.specs.declared.split.SplitAnswer.the-variants.{Due, TooDeep as SplitTooDeep, NoSegment as SplitNoSegment}
+use Rattle.structure.specs.Splits.{SplitBy}
 use Rattle.segment.specs.declared.choice.Choice.{Choice}
 use Rattle.segment.specs.declared.choice.Choice.the-variants.{Found, Into, Full}
 use Rattle.segment.specs.Answers.{choiceOf}
@@ -91,12 +90,14 @@ module _ (n : ℕ) (ss : List Store) (p : Plan Said) (a : List ℕ) where
 
 -- ---- What the code has read
 
--- The window is full, and there are a depth and a segment for a split.
-pub record MustSplit (p : Place) (a : List ℕ) (key n : ℕ) : Type 0 where
+-- The window is full, and the split into the free segment `new` was made, as far as allowed: it left b.
+pub record SplitOf (p : Place) (key allowance due : ℕ) (a b : List ℕ) : Type 0 where
+  pub new : ℕ
   pub stands : Stands p a key (putTests a key)
   pub window-full : keyChoice a key ≡ full
   pub room : localDepth (keyEntry a key) < maxDepth a
-  pub free : freeSegment a ≡ some n
+  pub free : freeSegment a ≡ some new
+  pub made : Executed (splitting a key new) allowance 0 a due b
 
 module _ {p : Place} {a : List ℕ} {key : ℕ} (k : Stands p a key (putTests a key)) (x : Choice) (c : choiceOf x ≡ keyChoice a (p .key)) where
   key-choice : choiceOf x ≡ keyChoice a key
@@ -143,88 +144,80 @@ module _ {p : Place} {a : List ℕ} {key : ℕ} (k : Stands p a key (putTests a 
   depth-is : localDepth (keyEntry a key) ≡ p .«local_depth»
   depth-is = rw (k .1) at (k .2 .depth-is)
 
-  pub answers-too-deep : (value allowance : ℕ) → p .«local_depth» ≡ p .header .«max_depth» → (r : Answer)
-      → (r .reply ≡ RefusedReply TooDeep) × (r .stores ≡ 0) → Answered (step a 0 (Put key value allowance)) r a
-  unfolding effect step
-  answers-too-deep value allowance d r e =
-      let deep : localDepth (keyEntry a key) ≡ maxDepth a = depth-is ∙ d ∙ sym (k .2 .header-read .max-depth-read) in
-      rw (put-too-deep a key value (k .0) full-window deep)
-      (answered-only allowance (refuse TooDeep) a r (ap saidBy (e .0)) (e .1))
+  -- What the split has answered, and left as b.
+  module _ (allowance : ℕ) (x : SplitAnswer) (b : List ℕ) (s : SplitBy x p allowance a b) where
+    pub answers-too-deep : x ≡ SplitTooDeep → (value : ℕ) (r : Answer) → (r .reply ≡ RefusedReply TooDeep) × (r .stores ≡ 0)
+        → Answered (step a 0 (Put key value allowance)) r b
+    unfolding effect step
+    answers-too-deep q value r e =
+        let t = rw q at s in
+        let deep : localDepth (keyEntry a key) ≡ maxDepth a = depth-is ∙ t .0 ∙ sym (k .2 .header-read .max-depth-read) in
+        rw (t .1, put-too-deep a key value (k .0) full-window deep)
+        (answered-only allowance (refuse TooDeep) a r (ap saidBy (e .0)) (e .1))
 
-  module _ (not-deep : p .«local_depth» ≡ p .header .«max_depth» → ⊥) where
-    room : localDepth (keyEntry a key) < maxDepth a
-    room =
-        let b = bounds (k .2 .header-read) in
-        let l = place-bounds (k .2) .local-low in
-        let less : p .«local_depth» < p .header .«max_depth» = omega (arith, not-deep) in
-        rw (depth-is, k .2 .header-read .max-depth-read) less
+    room : p .«local_depth» < p .header .«max_depth» → localDepth (keyEntry a key) < maxDepth a
+    room l = rw (depth-is, k .2 .header-read .max-depth-read) l
 
-    module _ {x : Free} (f : freeOf x ≡ freeSegment a) where
-      pub answers-no-segment : (value allowance : ℕ) → x ≡ Nothing → (r : Answer) → (r .reply ≡ RefusedReply NoSegment) × (r .stores ≡ 0)
-          → Answered (step a 0 (Put key value allowance)) r a
-      unfolding effect step
-      answers-no-segment value allowance q r e =
-          rw (put-no-segment a key value (k .0) full-window room (sym (rw q at f)))
-          (answered-only allowance (refuse NoSegment) a r (ap saidBy (e .0)) (e .1))
+    pub answers-no-segment : x ≡ SplitNoSegment → (value : ℕ) (r : Answer) → (r .reply ≡ RefusedReply NoSegment) × (r .stores ≡ 0)
+        → Answered (step a 0 (Put key value allowance)) r b
+    unfolding effect step
+    answers-no-segment q value r e =
+        let t = rw q at s in
+        rw (t .2, put-no-segment a key value (k .0) full-window (room (t .0)) (t .1))
+        (answered-only allowance (refuse NoSegment) a r (ap saidBy (e .0)) (e .1))
 
-      pub must-split : {n : ℕ} → x ≡ Segment n → MustSplit p a key n
-      must-split q = record { stands = k; window-full = full-window; room = room; free = sym (rw q at f) }
+    pub split-of : {due : ℕ} → x ≡ Due due → SplitOf p key allowance due a b
+    split-of q =
+        let t = rw q at s in
+        record {
+          new = t .0;
+          stands = k;
+          window-full = full-window;
+          room = room (t .1 .local-room);
+          free = t .1 .free;
+          made = rw (← k .1) (t .1 .made);
+        }
 
 -- ---- A split, and the put behind it
 
-module _ {p : Place} {a : List ℕ} {key n : ℕ} (m : MustSplit p a key n) where
-  pub can-split : CanSplit p n a
-  can-split =
-      let k = m .stands in
-      let d = k .2 .header-read in
-      let at : localDepth (keyEntry a key) ≡ p .«local_depth» = rw (k .1) at (k .2 .depth-is) in
-      record {
-        place = k .2;
-        local-room = rw (at, d .max-depth-read) at (m .room);
-        new-below = rw (d .segments-read) at (free-below a n (m .free) .0);
-      }
+module _ {p : Place} {key allowance due : ℕ} {a b : List ℕ} (m : SplitOf p key allowance due a b) (value : ℕ) where
+  plan : put a key value ≡ splitting a key (m .new) then put (apply (splitting a key (m .new)) a) key value
+  plan = put-again a key value (m .stands .0) (m .window-full) (m .room) (m .new) (m .free)
 
-  module _ (value : ℕ) {allowance due : ℕ} {b : List ℕ} (done-so : Executed (splitting a (p .key) n) allowance 0 a due b) where
-    made : Executed (splitting a key n) allowance 0 a due b
-    made = rw (m .stands .1) at done-so
+  due-length : due ≡ length (splitting a key (m .new))
+  due-length = m .made .count ∙ zero-add (length (splitting a key (m .new)))
 
-    plan : put a key value ≡ splitting a key n then put (apply (splitting a key n) a) key value
-    plan = put-again a key value (m .stands .0) (m .window-full) (m .room) n (m .free)
+  pub answers-cut : allowance < due → Answered (step a 0 (Put key value allowance)) (record { reply = RefusedReply CutOff; stores = allowance }) b
+  unfolding effect step
+  answers-cut l =
+      rw (plan, changed-then-cut allowance (splitting a key (m .new)) (put (apply (splitting a key (m .new)) a) key value) a (rw due-length at l))
+      (record { reply = refl; stores = refl; words = m .made .words ∙ rw (sub-zero allowance) })
 
-    due-length : due ≡ length (splitting a key n)
-    due-length = made .count ∙ zero-add (length (splitting a key n))
+  module _ (whole : due ≤ allowance) where
+    split-whole : b ≡ apply (splitting a key (m .new)) a
+    split-whole = m .made .words ∙ exec-all (splitting a key (m .new)) (allowance - 0) a (omega (arith, due-length))
 
-    pub answers-cut : allowance < due → Answered (step a 0 (Put key value allowance)) (record { reply = RefusedReply CutOff; stores = allowance }) b
-    unfolding effect step
-    answers-cut l =
-        rw (plan, changed-then-cut allowance (splitting a key n) (put (apply (splitting a key n) a) key value) a (rw due-length at l))
-        (record { reply = refl; stores = refl; words = made .words ∙ rw (sub-zero allowance) })
+    pub put-falls : unused b key < unused a key
+    unfolding unused
+    put-falls =
+        let u : ℕ = maxDepth a - suc (localDepth (keyEntry a key)) in
+        let here : unused a key ≡ suc u = let l = m .room in omega arith in
+        let can : Splittable a key (m .new) = put-splittable a key value (m .stands .0) (m .window-full) (m .room) (m .new) (m .free) in
+        let behind : unused b key ≡ u = rw split-whole (unused-falls a key (m .new) can u here) in
+        omega arith
 
-    module _ (whole : due ≤ allowance) where
-      split-whole : b ≡ apply (splitting a key n) a
-      split-whole = made .words ∙ exec-all (splitting a key n) (allowance - 0) a (omega (arith, due-length))
+    module _ {rest : Answer} {after : List ℕ} (again : Answered (step b 0 (Put key value (allowance - due))) rest after) where
+      pub rest-allowed : rest .stores ≤ allowance - due
+      unfolding effect step changed
+      rest-allowed = rw (again .stores) (made-allowed (refuse CutOff) (allowance - due) (put b key value) b)
 
-      pub put-falls : unused b key < unused a key
-      unfolding unused
-      put-falls =
-          let u : ℕ = maxDepth a - suc (localDepth (keyEntry a key)) in
-          let here : unused a key ≡ suc u = let l = m .room in omega arith in
-          let can : Splittable a key n = put-splittable a key value (m .stands .0) (m .window-full) (m .room) n (m .free) in
-          let behind : unused b key ≡ u = rw split-whole (unused-falls a key n can u here) in
-          omega arith
-
-      module _ {rest : Answer} {after : List ℕ} (again : Answered (step b 0 (Put key value (allowance - due))) rest after) where
-        pub rest-allowed : rest .stores ≤ allowance - due
-        unfolding effect step changed
-        rest-allowed = rw (again .stores) (made-allowed (refuse CutOff) (allowance - due) (put b key value) b)
-
-        pub answers-again : Answered (step a 0 (Put key value allowance)) (record { reply = rest .reply; stores = due + rest .stores }) after
-        unfolding effect step
-        answers-again =
-            let o = rw (split-whole, due-length) at again in
-            rw (plan, changed-then allowance (splitting a key n) (put (apply (splitting a key n) a) key value) a (rw due-length at whole))
-            (record {
-              reply = o .reply;
-              stores = rw due-length (ap (λ (k : ℕ). length (splitting a key n) + k) (o .stores));
-              words = o .words;
-            })
+      pub answers-again : Answered (step a 0 (Put key value allowance)) (record { reply = rest .reply; stores = due + rest .stores }) after
+      unfolding effect step
+      answers-again =
+          let o = rw (split-whole, due-length) at again in
+          rw (plan, changed-then allowance (splitting a key (m .new)) (put (apply (splitting a key (m .new)) a) key value) a (rw due-length at whole))
+          (record {
+            reply = o .reply;
+            stores = rw due-length (ap (λ (k : ℕ). length (splitting a key (m .new)) + k) (o .stores));
+            words = o .words;
+          })

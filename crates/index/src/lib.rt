@@ -8,8 +8,6 @@ mod slot;
 
 use answer::after_stores;
 use answer::without_store;
-use directory::free::Free;
-use directory::free::free_segment;
 use directory::mend::mend_entries;
 use directory::scan::Verdict;
 use directory::scan::scan;
@@ -34,6 +32,7 @@ use slot::find_at;
 use slot::put_record;
 use slot::put_value;
 use stores::store_word;
+use structure::split::SplitAnswer;
 use structure::split::split;
 ghost use Rattle.rules.specs.declared.Call.the-variants.{Format, Get, Put, Remove, Mend, List as ListCall};
 ghost use Rattle.rules.specs.Step.{step, Performed};
@@ -82,14 +81,11 @@ pub fn put(words: &mut [u64], key: u64, value: u64, allowance: u32) -> Answer
         Choice::Into(slot) => return put_record(words, place, slot, value, allowance),
         Choice::Full => {}
     }
-    let header = place.header;
-    if place.local_depth == header.max_depth {
-        return without_store(Reply::Refused(Refusal::TooDeep));
-    }
-    let Free::Segment(new_segment) = free_segment(words, header) else {
-        return without_store(Reply::Refused(Refusal::NoSegment));
+    let due = match split(words, place, allowance) {
+        SplitAnswer::Due(due) => due,
+        SplitAnswer::TooDeep => return without_store(Reply::Refused(Refusal::TooDeep)),
+        SplitAnswer::NoSegment => return without_store(Reply::Refused(Refusal::NoSegment)),
     };
-    let due = split(words, place, new_segment, allowance);
     if allowance < due {
         return Answer {
             reply: Reply::Refused(Refusal::CutOff),

@@ -85,27 +85,35 @@ slot-shifted key value base L bits j = go (live L bits key && eqb (bit key L) 1)
     go true k v = rw (k, v)
     go false k v = rw k
 
--- The copy of a segment read as a value, shifted to where the new segment stands, is the copy step in the whole array.
-pub copying-shifted : (a : List ℕ) (from base L bits : ℕ) → from + 128 ≤ length a
-    → shifted base (copying (segmentIn a from) 0 0 L bits) ≡ copying a from base L bits
+-- The copy into the segment at 0, shifted to where the new segment stands, is the copy into that one.
+copying-shifted : (old : List ℕ) (base L bits : ℕ) → shifted base (copying old 0 0 L bits) ≡ copying old 0 base L bits
 unfolding copying
-copying-shifted a from base L bits fits =
-    shifted-each base (copySlot (segmentIn a from) 0 0 L bits) 64
-    ∙ each-same (λ j. shifted base (copySlot (segmentIn a from) 0 0 L bits j)) (copySlot a from base L bits) 64
+copying-shifted old base L bits =
+    shifted-each base (copySlot old 0 0 L bits) 64
+    ∙ each-same (λ j. shifted base (copySlot old 0 0 L bits j)) (copySlot old 0 base L bits) 64
     (λ j h.
-    ap (shifted base) (copies-slot (segmentIn a from) 0 0 L bits j)
-    ∙ slot-shifted (keyAt (segmentIn a from) 0 j) (valueAt (segmentIn a from) 0 j) base L bits j
-    ∙ ap₂ (λ (x y : ℕ). slotCopy x y base L bits j) (part-key a from fits j h) (part-value a from fits j h)
-    ∙ sym (copies-slot a from base L bits j))
+    ap (shifted base) (copies-slot old 0 0 L bits j)
+    ∙ slot-shifted (keyAt old 0 j) (valueAt old 0 j) base L bits j
+    ∙ sym (copies-slot old 0 base L bits j))
 
--- The copy step by the code: the old segment as a value, the new one lent as a part, by its start and its end.
-pub copied : (a : List ℕ) (from base L bits allowed due due′ : ℕ) (b : List ℕ) → from + 128 ≤ length a → base + 128 ≤ length a
-    → Executed (copying (segmentIn a from) 0 0 L bits) allowed due (take (base + 128 - base) (drop base a)) due′ b
-    → Executed (copying a from base L bits) allowed due a due′ (take base a ++ (b ++ drop (base + 128 - base) (drop base a)))
-copied a from base L bits allowed due due′ b f h p =
-    rw (← copying-shifted a from base L bits f, span base)
-    (executed-part (copying (segmentIn a from) 0 0 L bits) base allowed due a due′ b h (copying-inside (segmentIn a from) 0 L bits)
-    (rw (span base) at p))
+-- The copy from a segment read as a value is the copy from where the segment stands.
+pub copying-read : (a : List ℕ) (from to L bits : ℕ) → from + 128 ≤ length a
+    → copying (segmentIn a from) 0 to L bits ≡ copying a from to L bits
+unfolding copying
+copying-read a from to L bits fits =
+    each-same (copySlot (segmentIn a from) 0 to L bits) (copySlot a from to L bits) 64
+    (λ j h.
+    copies-slot (segmentIn a from) 0 to L bits j
+    ∙ ap₂ (λ (x y : ℕ). slotCopy x y to L bits j) (part-key a from fits j h) (part-value a from fits j h)
+    ∙ sym (copies-slot a from to L bits j))
+
+-- The copy step by the code: from words `old`, into the segment at `base`, lent as a part by its start and its end.
+pub copied : (a old : List ℕ) (base L bits allowed due due′ : ℕ) (b : List ℕ) → base + 128 ≤ length a
+    → Executed (copying old 0 0 L bits) allowed due (take (base + 128 - base) (drop base a)) due′ b
+    → Executed (copying old 0 base L bits) allowed due a due′ (take base a ++ (b ++ drop (base + 128 - base) (drop base a)))
+copied a old base L bits allowed due due′ b h p =
+    rw (← copying-shifted old base L bits, span base)
+    (executed-part (copying old 0 0 L bits) base allowed due a due′ b h (copying-inside old 0 L bits) (rw (span base) at p))
 
 -- ---- A segment copied word by word
 

@@ -1,43 +1,71 @@
--- What a split of a key's segment asks of its caller, and the stores of its steps 3 and 4 by the key's place.
+-- What a split of a key's segment asks of its caller, and answers; and the stores of its steps 3 and 4.
 -- Assumes nothing.
 use Prim.Native.Nat.{ℕ, _+_, _≤_, _<_}
 use mathlib.Core.Path.{_≡_}
 use mathlib.Core.List.{List, _++_}
+use mathlib.Core.Option.{none, some}
 use lib.ListN.{length}
 use Rattle.stores.specs.Store.{Store}
+use Rattle.stores.specs.Executed.{Executed}
 use Rattle.rules.specs.Layout.{segmentAddress}
 use Rattle.rules.specs.Keys.{firstBits, blockStart}
-use Rattle.rules.specs.Split.{copying, updating}
+use Rattle.rules.specs.Slots.{freeSegment}
+use Rattle.rules.specs.Split.{copying, updating, splitting}
 use Rattle.layout.specs.declared.place.Place.{Place}
 use Rattle.layout.specs.Places.{KeyPlace}
+use Rattle.structure.specs.declared.split.SplitAnswer.{SplitAnswer}
+use Rattle.structure.specs.declared.split.SplitAnswer.the-variants.{Due, TooDeep, NoSegment}
+use Rattle.structure.specs.declared.split.Halving.{Halving}
+
+-- ---- The whole split
 
 -- The key's segment can be split into itself and the segment n: its place is known, it is less deep than the largest depth, and n is a
--- segment's number. Whether the rest of the directory is consistent does not matter.
+-- segment's number.
 pub record CanSplit (p : Place) (n : ℕ) (a : List ℕ) : Type 0 where
   pub place : KeyPlace p a
   pub local-room : p .«local_depth» < p .header .«max_depth»
   pub new-below : n < p .header .segments
 
--- The same in a directory of depth g, with room for one bit more.
-pub record Halvable (p : Place) (g n : ℕ) (a : List ℕ) : Type 0 where
-  pub not-full : p .«local_depth» < g
-  pub depth-low : g ≤ p .header .«max_depth»
-  pub depth-high : p .header .«max_depth» ≤ 12
-  pub old-below : p .segment < 4096
-  pub new-below : n < 4096
-  pub base-at : p .base ≡ segmentAddress (p .header .«max_depth») (p .segment)
-  pub old-room : p .base + 128 ≤ length a
-  pub new-room : segmentAddress (p .header .«max_depth») n + 128 ≤ length a
+-- Step 1 has passed with the free segment n, and of the stores of steps 2 to 4 those allowed were made: a became b.
+pub record SplitInto (p : Place) (n allowed due : ℕ) (a b : List ℕ) : Type 0 where
+  pub local-room : p .«local_depth» < p .header .«max_depth»
+  pub free : freeSegment a ≡ some n
+  pub made : Executed (splitting a (p .key) n) allowed 0 a due b
 
--- The copy step, by the key's place.
-abbrev pub copyingAt : List ℕ → Place → (n : ℕ) → List Store
-copyingAt a p n =
-    copying a (p .base) (segmentAddress (p .header .«max_depth») n) (p .«local_depth») (firstBits (p .bits) (p .«local_depth»))
+-- What a split answers, and leaves as b. Step 1 makes no store.
+abbrev pub SplitBy : SplitAnswer → Place → (allowed : ℕ) → (a b : List ℕ) → Type 0
+SplitBy (Due due) p allowed a b = (n : ℕ) × SplitInto p n allowed due a b
+SplitBy TooDeep p allowed a b = (p .«local_depth» ≡ p .header .«max_depth») × (b ≡ a)
+SplitBy NoSegment p allowed a b = (p .«local_depth» < p .header .«max_depth») × (freeSegment a ≡ none) × (b ≡ a)
 
--- The entry update in a directory of depth g.
-abbrev pub updatingAt : Place → (g n : ℕ) → List Store
-updatingAt p g n = updating g (p .«local_depth») (blockStart g (p .«local_depth») (firstBits (p .bits) g)) (p .segment) n
+-- ---- Steps 3 and 4
 
--- Steps 3 and 4.
-abbrev pub halvingAt : List ℕ → Place → (g n : ℕ) → List Store
-halvingAt a p g n = copyingAt a p n ++ updatingAt p g n
+-- They can be made in the array a: the key's segment is less deep than the directory, and the directory and the new segment have room.
+pub record Halvable (h : Halving) (a : List ℕ) : Type 0 where
+  pub not-full : h .place .«local_depth» < h .depth
+  pub depth-low : h .depth ≤ h .place .header .«max_depth»
+  pub depth-high : h .place .header .«max_depth» ≤ 12
+  pub old-below : h .place .segment < 4096
+  pub new-below : h .«new_segment» < 4096
+  pub new-room : segmentAddress (h .place .header .«max_depth») (h .«new_segment») + 128 ≤ length a
+
+-- The bits that the keys of the block share.
+abbrev pub sharedBits : Halving → ℕ
+sharedBits h = firstBits (h .place .bits) (h .place .«local_depth»)
+
+-- The copy step, from the old segment's words.
+abbrev pub copyingAt : (old : List ℕ) → Halving → List Store
+copyingAt old h =
+    copying old 0 (segmentAddress (h .place .header .«max_depth») (h .«new_segment»)) (h .place .«local_depth») (sharedBits h)
+
+-- The first index of the block.
+abbrev pub startAt : Halving → ℕ
+startAt h = blockStart (h .depth) (h .place .«local_depth») (firstBits (h .place .bits) (h .depth))
+
+-- The entry update.
+abbrev pub updatingAt : Halving → List Store
+updatingAt h = updating (h .depth) (h .place .«local_depth») (startAt h) (h .place .segment) (h .«new_segment»)
+
+-- Both.
+abbrev pub halvingAt : (old : List ℕ) → Halving → List Store
+halvingAt old h = copyingAt old h ++ updatingAt h

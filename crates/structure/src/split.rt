@@ -1,5 +1,7 @@
-// The split of a key's segment: document 01, split, steps 2 to 4.
+// The split of a key's segment: document 01, split.
 use directory::double::double;
+use directory::free::Free;
+use directory::free::free_segment;
 use directory::update::Halves;
 use directory::update::update_entries;
 use layout::SEGMENT_WORDS;
@@ -14,8 +16,24 @@ ghost use Prim.Native.Nat.{_+_, _≤_};
 ghost use lib.ListN.{length};
 ghost use Rattle.stores.specs.Executed.{Executed, dueLimit};
 ghost use Rattle.rules.specs.Split.{splitting};
+ghost use Rattle.layout.specs.Places.{KeyPlace};
 ghost use Rattle.segment.specs.Slot.{segmentIn};
-ghost use Rattle.structure.specs.Splits.{halvingAt, Halvable, CanSplit};
+ghost use Rattle.structure.specs.Splits.{halvingAt, Halvable, CanSplit, SplitBy};
+
+// What a split answers: the number of stores due, or what step 1 refuses.
+pub enum SplitAnswer {
+    Due(u32),
+    TooDeep,
+    NoSegment,
+}
+
+// Steps 3 and 4 of a split: the key's place, the directory's depth behind any doubling, and the new
+// segment.
+pub struct Halving {
+    pub place: Place,
+    pub depth: u32,
+    pub new_segment: usize,
+}
 
 // The words of the segment at `base`, as a value: a split reads them while it writes the array.
 fn read_segment(words: &[u64], base: usize) -> [u64; SEGMENT_WORDS]
@@ -29,22 +47,23 @@ fn read_segment(words: &[u64], base: usize) -> [u64; SEGMENT_WORDS]
     segment
 }
 
-// Steps 3 and 4 in a directory of this depth: the copy step, then the entries of the key's block. The
-// old segment is read first, as a value; the new one is lent on to be written.
+// Steps 3 and 4: the copy step from the words of the old segment, then the entries of the key's block.
+// The new segment is lent on to be written.
 fn halve(
     words: &mut [u64],
-    place: Place,
-    depth: u32,
-    new_segment: usize,
+    old: [u64; SEGMENT_WORDS],
+    halving: Halving,
     allowed: u32,
     due: u32,
 ) -> u32
-    requires { ⌜ Halvable place depth «new_segment» (now words) × (due + 128 ≤ dueLimit) ⌝ }
-    ensures { λ r. ⌜ Executed (halvingAt (now (words .entry)) place depth «new_segment») allowed due (now (words .entry)) r (now (words .exit)) ⌝ }
+    requires { ⌜ Halvable halving (now words) × (due + 128 ≤ dueLimit) ⌝ }
+    ensures { λ r. ⌜ Executed (halvingAt old halving) allowed due (now (words .entry)) r (now (words .exit)) ⌝ }
 {
+    let place = halving.place;
+    let depth = halving.depth;
+    let new_segment = halving.new_segment;
     let bits = place.bits;
     let local_depth = place.local_depth;
-    let old = read_segment(words, place.base);
     let base = segment_base(place.header.max_depth, new_segment);
     let block = Block { local_depth, bits };
     let total = copy_records(
@@ -65,17 +84,45 @@ fn halve(
     update_entries(words, halves, allowed, total)
 }
 
-// Splits the key's segment into itself and the new segment, and answers the number of stores due. A
-// segment as deep as the directory has the directory doubled first. What is read behind the doubling
-// is no word that it stores, so a cut needs no branch here.
-pub fn split(words: &mut [u64], place: Place, new_segment: usize, allowed: u32) -> u32
+// Steps 2 to 4, into the new segment: answers the number of stores due. A segment as deep as the
+// directory has the directory doubled first. The old segment is read before the first store. Its words
+// in this frame also keep the compiler from putting the split's loops into the recursive put.
+fn split_into(words: &mut [u64], place: Place, new_segment: usize, allowed: u32) -> u32
     requires { ⌜ CanSplit place «new_segment» (now words) ⌝ }
     ensures { λ r. ⌜ Executed (splitting (now (words .entry)) (place .key) «new_segment») allowed 0 (now (words .entry)) r (now (words .exit)) ⌝ }
 {
     let header = place.header;
-    if place.local_depth == header.depth {
+    let depth = header.depth;
+    let old = read_segment(words, place.base);
+    if place.local_depth == depth {
         let due = double(words, header, allowed, 0);
-        return halve(words, place, header.depth + 1, new_segment, allowed, due);
+        let halving = Halving {
+            place,
+            depth: depth + 1,
+            new_segment,
+        };
+        return halve(words, old, halving, allowed, due);
     }
-    halve(words, place, header.depth, new_segment, allowed, 0)
+    let halving = Halving {
+        place,
+        depth,
+        new_segment,
+    };
+    halve(words, old, halving, allowed, 0)
+}
+
+// Splits the key's segment into itself and the smallest free segment, if the segment is not too deep
+// and one is free. Whether the rest of the directory is consistent does not matter.
+pub fn split(words: &mut [u64], place: Place, allowed: u32) -> SplitAnswer
+    requires { ⌜ KeyPlace place (now words) ⌝ }
+    ensures { λ r. ⌜ SplitBy r place allowed (now (words .entry)) (now (words .exit)) ⌝ }
+{
+    let header = place.header;
+    if place.local_depth == header.max_depth {
+        return SplitAnswer::TooDeep;
+    }
+    let Free::Segment(new_segment) = free_segment(words, header) else {
+        return SplitAnswer::NoSegment;
+    };
+    SplitAnswer::Due(split_into(words, place, new_segment, allowed))
 }

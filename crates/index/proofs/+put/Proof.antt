@@ -9,11 +9,10 @@ use borrow.Fn.PlainCycle.{Measures, is, falls, and}
 use Rattle.rules.specs.Slots.{full}
 use Rattle.rules.specs.Put.{putTests, keyChoice, unused}
 use Rattle.index.proofs.Places.{Stands, stands, refused-by}
-use Rattle.index.proofs.Puts.{MustSplit, choice-full-read, found-slot, into-slot, answers-found, answers-into, answers-refused, answers-too-deep, answers-no-segment, must-split, can-split, answers-cut, put-falls, rest-allowed, answers-again}
+use Rattle.index.proofs.Puts.{choice-full-read, found-slot, into-slot, answers-found, answers-into, answers-refused, answers-too-deep, answers-no-segment, split-of, answers-cut, put-falls, rest-allowed, answers-again}
 use Rattle.index.proofs.put.Reads as put
 use Rattle.index.proofs.put.Kinds as put-kinds
 use Rattle.index.proofs.+put.Lts-put as put-lts
-use Rattle.directory.proofs.free.free_segment.Reads as free-segment-reads
 use Rattle.structure.proofs.split.split.Reads as split-reads
 use Rattle.index.proofs.answer.without_store.Reads as without-store-reads
 use Rattle.index.proofs.place.place_to_change.Reads as place-to-change-reads
@@ -34,9 +33,9 @@ put-below t = and 1 put-kinds.ps (falls 1 put-kinds.ps _<_ μ-put t) put.Pre
 
 -- What the called functions ask and promise; `put` itself, below the measure t.
 abbrev learnt : ℕ → put-lts.Claims
-learnt t = (place-to-change-reads.Asked, place-to-change-reads.Learnt, without-store-reads.Asked, without-store-reads.Learnt, choose-at-reads.Asked, choose-at-reads.Learnt, put-value-reads.Asked, put-value-reads.Learnt, put-record-reads.Asked, put-record-reads.Learnt, free-segment-reads.Asked, free-segment-reads.Learnt, split-reads.Asked, split-reads.Learnt, put-below t, put.Post)
+learnt t = (place-to-change-reads.Asked, place-to-change-reads.Learnt, without-store-reads.Asked, without-store-reads.Learnt, choose-at-reads.Asked, choose-at-reads.Learnt, put-value-reads.Asked, put-value-reads.Learnt, put-record-reads.Asked, put-record-reads.Learnt, split-reads.Asked, split-reads.Learnt, put-below t, put.Post)
 
--- ---- What is known behind the tests, where the window is full, and before a split
+-- ---- What is known behind the tests, and where the window is full
 
 stood : (t : ℕ) (c : put-lts.After-known-told (learnt t) (put-at t) put.Post)
     → Stands (c .before .place .given .0 .0) (c .before .before .before .before .before .before .args .words .now) (c .before .before .before .before .before .before .args .key) (putTests (c .before .before .before .before .before .before .args .words .now) (c .before .before .before .before .before .before .args .key))
@@ -44,10 +43,6 @@ stood t c = stands _ _ _ _ (c .before .before .before .place-to-change .ensures)
 
 full-at : (t : ℕ) (c : put-lts.After-enum-told (learnt t) (put-at t) put.Post) → keyChoice (c .before .before .before .before .before .before .before .before .before .before .args .words .now) (c .before .before .before .before .before .before .before .before .before .before .args .key) ≡ full
 full-at t c = choice-full-read (stood t (c .before .before .before .before)) _ (c .before .before .choose-at .ensures) (c .enum-told .given .1)
-
-splits : (t : ℕ) (c : put-lts.After-known-told5 (learnt t) (put-at t) put.Post)
-    → MustSplit (c .before .before .before .before .before .before .before .before .before .before .before .before .before .before .place .given .0 .0) (c .before .before .before .before .before .before .before .before .before .before .before .before .before .before .before .before .before .before .before .args .words .now) (c .before .before .before .before .before .before .before .before .before .before .before .before .before .before .before .before .before .before .before .args .key) (c .before .new-segment .given .0 .0)
-splits t c = must-split (stood t (c .before .before .before .before .before .before .before .before .before .before .before .before .before)) (full-at t (c .before .before .before .before .before .before .before .before .before)) (λ e. omega (arith, c .before .before .before .before .before .if1 .left)) (c .before .before .before .free-segment .ensures) (c .before .new-segment .given .1)
 
 -- ---- The needs, in the order of the code
 
@@ -99,6 +94,15 @@ put-returns-3 t c = answers-into (stood t (c .before .before .before .before .be
 put-enum-told : (t : ℕ) → put-lts.Need-enum-told (learnt t) (put-at t) put.Post
 put-enum-told t c = search needs
 
+put-split-requires : (t : ℕ) → put-lts.Need-split-requires (learnt t) (put-at t) put.Post
+put-split-requires t c κs = stood t (c .before .before .before .before .before) .2
+
+put-enum-known-due : (t : ℕ) → put-lts.Need-enum-known-due (learnt t) (put-at t) put.Post
+put-enum-known-due t c = search needs
+
+put-enum-told-2 : (t : ℕ) → put-lts.Need-enum-told-2 (learnt t) (put-at t) put.Post
+put-enum-told-2 t c = search needs
+
 put-without-store-requires-2 : (t : ℕ) → put-lts.Need-without-store-requires-2 (learnt t) (put-at t) put.Post
 put-without-store-requires-2 t c κs = search needs
 
@@ -106,16 +110,10 @@ put-same-length-4 : (t : ℕ) → put-lts.Need-same-length-4 (learnt t) (put-at 
 put-same-length-4 t c = search needs
 
 put-returns-4 : (t : ℕ) → put-lts.Need-returns-4 (learnt t) (put-at t) put.Post
-put-returns-4 t c = answers-too-deep (stood t (c .before .before .before .before .before .before .before .before .before)) (full-at t (c .before .before .before .before .before)) _ _ (omega (arith, c .before .if1 .taken)) _ (c .without-store2 .ensures)
+put-returns-4 t c = answers-too-deep (stood t (c .before .before .before .before .before .before .before .before .before .before .before)) (full-at t (c .before .before .before .before .before .before .before)) _ _ _ (c .before .before .before .before .before .split .ensures) (c .before .enum-told2 .given .1) _ _ (c .without-store2 .ensures)
 
-put-free-segment-requires : (t : ℕ) → put-lts.Need-free-segment-requires (learnt t) (put-at t) put.Post
-put-free-segment-requires t c κs = (stood t (c .before .before .before .before .before .before .before .before .before)) .2 .header-read
-
-put-enum-known-new-segment : (t : ℕ) → put-lts.Need-enum-known-new-segment (learnt t) (put-at t) put.Post
-put-enum-known-new-segment t c = search needs
-
-put-enum-told-2 : (t : ℕ) → put-lts.Need-enum-told-2 (learnt t) (put-at t) put.Post
-put-enum-told-2 t c = search needs
+put-enum-told-3 : (t : ℕ) → put-lts.Need-enum-told-3 (learnt t) (put-at t) put.Post
+put-enum-told-3 t c = search needs
 
 put-without-store-requires-3 : (t : ℕ) → put-lts.Need-without-store-requires-3 (learnt t) (put-at t) put.Post
 put-without-store-requires-3 t c κs = search needs
@@ -124,28 +122,25 @@ put-same-length-5 : (t : ℕ) → put-lts.Need-same-length-5 (learnt t) (put-at 
 put-same-length-5 t c = search needs
 
 put-returns-5 : (t : ℕ) → put-lts.Need-returns-5 (learnt t) (put-at t) put.Post
-put-returns-5 t c = answers-no-segment (stood t (c .before .before .before .before .before .before .before .before .before .before .before .before .before)) (full-at t (c .before .before .before .before .before .before .before .before .before)) (λ e. omega (arith, c .before .before .before .before .before .if1 .left)) (c .before .before .before .free-segment .ensures) _ _ (c .before .enum-told2 .given .1) _ (c .without-store3 .ensures)
-
-put-split-requires : (t : ℕ) → put-lts.Need-split-requires (learnt t) (put-at t) put.Post
-put-split-requires t c κs = can-split (splits t (c .before))
+put-returns-5 t c = answers-no-segment (stood t (c .before .before .before .before .before .before .before .before .before .before .before)) (full-at t (c .before .before .before .before .before .before .before)) _ _ _ (c .before .before .before .before .before .split .ensures) (c .before .enum-told3 .given .1) _ _ (c .without-store3 .ensures)
 
 put-same-length-6 : (t : ℕ) → put-lts.Need-same-length-6 (learnt t) (put-at t) put.Post
 put-same-length-6 t c = search needs
 
 put-returns-6 : (t : ℕ) → put-lts.Need-returns-6 (learnt t) (put-at t) put.Post
-put-returns-6 t c = answers-cut (splits t (c .before .before .before .before .before)) _ (c .before .before .before .split .ensures) (omega (arith, c .if2 .taken))
+put-returns-6 t c = answers-cut (split-of (stood t (c .before .before .before .before .before .before .before .before .before .before .before .before)) (full-at t (c .before .before .before .before .before .before .before .before)) _ _ _ (c .before .before .before .before .before .before .split .ensures) (c .before .before .due .given .1)) _ (omega (arith, c .if1 .taken))
 
 put-put-requires : (t : ℕ) → put-lts.Need-put-requires (learnt t) (put-at t) put.Post
-put-put-requires t c κs = (rw (c .before .before .before .before .before .before .before .before .before .before .before .before .before .before .before .before .before .before .before .before .before .before .before .before .before .pre .0) at (put-falls (splits t (c .before .before .before .before .before .before)) (c .before .before .before .before .before .before .before .before .before .before .before .before .before .before .before .before .before .before .before .before .before .before .before .before .before .args .value) (c .before .before .before .before .split .ensures) (omega (arith, c .before .if2 .left))), Prim.tt)
+put-put-requires t c κs = (rw (c .before .before .before .before .before .before .before .before .before .before .before .before .before .before .before .before .before .before .before .pre .0) at (put-falls (split-of (stood t (c .before .before .before .before .before .before .before .before .before .before .before .before .before)) (full-at t (c .before .before .before .before .before .before .before .before .before)) _ _ _ (c .before .before .before .before .before .before .before .split .ensures) (c .before .before .before .due .given .1)) (c .before .before .before .before .before .before .before .before .before .before .before .before .before .before .before .before .before .before .before .args .value) (omega (arith, c .before .if1 .left))), Prim.tt)
 
 put-add-stores : (t : ℕ) → put-lts.Need-add-stores (learnt t) (put-at t) put.Post
-put-add-stores t c = omega (arith, c .before .before .before .before .before .if2 .left, rest-allowed (splits t (c .before .before .before .before .before .before .before .before .before .before)) (c .before .before .before .before .before .before .before .before .before .before .before .before .before .before .before .before .before .before .before .before .before .before .before .before .before .before .before .before .before .args .value) (c .before .before .before .before .before .before .before .before .split .ensures) (omega (arith, c .before .before .before .before .before .if2 .left)) (c .before .before .before .put .ensures), c .before .before .before .before .before .before .before .before .before .before .before .before .before .before .before .before .before .before .before .before .before .before .before .before .before .before .before .before .before .good)
+put-add-stores t c = omega (arith, c .before .before .before .before .before .if1 .left, rest-allowed (split-of (stood t (c .before .before .before .before .before .before .before .before .before .before .before .before .before .before .before .before .before)) (full-at t (c .before .before .before .before .before .before .before .before .before .before .before .before .before)) _ _ _ (c .before .before .before .before .before .before .before .before .before .before .before .split .ensures) (c .before .before .before .before .before .before .before .due .given .1)) (c .before .before .before .before .before .before .before .before .before .before .before .before .before .before .before .before .before .before .before .before .before .before .before .args .value) (omega (arith, c .before .before .before .before .before .if1 .left)) (c .before .before .before .put .ensures), c .before .before .before .before .before .before .before .before .before .before .before .before .before .before .before .before .before .before .before .before .before .before .before .good)
 
 put-same-length-7 : (t : ℕ) → put-lts.Need-same-length-7 (learnt t) (put-at t) put.Post
 put-same-length-7 t c = search needs
 
 put-returns-7 : (t : ℕ) → put-lts.Need-returns-7 (learnt t) (put-at t) put.Post
-put-returns-7 t c = answers-again (splits t (c .before .before .before .before .before .before .before .before .before .before)) _ (c .before .before .before .before .before .before .before .before .split .ensures) (omega (arith, c .before .before .before .before .before .if2 .left)) (c .before .before .before .put .ensures)
+put-returns-7 t c = answers-again (split-of (stood t (c .before .before .before .before .before .before .before .before .before .before .before .before .before .before .before .before .before)) (full-at t (c .before .before .before .before .before .before .before .before .before .before .before .before .before)) _ _ _ (c .before .before .before .before .before .before .before .before .before .before .before .split .ensures) (c .before .before .before .before .before .before .before .due .given .1)) _ (omega (arith, c .before .before .before .before .before .if1 .left)) (c .before .before .before .put .ensures)
 
 pub +put-spec : {M : Type 1} → statement M
 +put-spec = close μ-put λ t. put-lts.spec (learnt t)
@@ -167,16 +162,16 @@ pub +put-spec : {M : Type 1} → statement M
     (put-same-length-3 t)
     (put-returns-3 t)
     (put-enum-told t)
+    (put-split-requires t)
+    (put-enum-known-due t)
+    (put-enum-told-2 t)
     (put-without-store-requires-2 t)
     (put-same-length-4 t)
     (put-returns-4 t)
-    (put-free-segment-requires t)
-    (put-enum-known-new-segment t)
-    (put-enum-told-2 t)
+    (put-enum-told-3 t)
     (put-without-store-requires-3 t)
     (put-same-length-5 t)
     (put-returns-5 t)
-    (put-split-requires t)
     (put-same-length-6 t)
     (put-returns-6 t)
     (put-put-requires t)

@@ -6,9 +6,6 @@ use borrow.Author.Needs.{needs}
 use Rattle.structure.proofs.split.halve.Statement.{statement}
 use Rattle.structure.proofs.split.halve.Tie as tie
 
-read-segment-requires : tie.Need-read-segment-requires
-read-segment-requires c κs = search needs
-
 segment-base-requires : tie.Need-segment-base-requires
 segment-base-requires c κs = search needs
 
@@ -39,24 +36,23 @@ block-start-requires c κs = (search needs, search needs, rw (c .directory-index
 update-entries-requires : tie.Need-update-entries-requires
 update-entries-requires c κs =
     let start = rw (c .before .before .directory-index .ensures) at (c .before .block-start .ensures) in
-    let u = c .before .before .before .before .before .before .before .before .before .before .before in
-    update-ready (u .pre .0) _ _ (c .before .before .before .before .before .before .before .segment-base .ensures) (c .before .before .before .before .before .before .before .before .read-segment .ensures) _ _ _ _ (c .before .before .before .before .before .copy-records .ensures) _ start (u .pre .1)
+    let u = c .before .before .before .before .before .before .before .before .before .before in
+    update-ready (u .pre .0) _ _ (c .before .before .before .before .before .before .before .segment-base .ensures) _ _ _ _ (c .before .before .before .before .before .copy-records .ensures) _ start (u .pre .1)
 
 same-length : tie.Need-same-length
 same-length c = search needs
 
 returns : tie.Need-returns
 returns c =
-    let u = c .before .before .before .before .before .before .before .before .before .before .before .before .before .before in
     let start = rw (c .before .before .before .before .before .directory-index .ensures) at (c .before .before .before .before .block-start .ensures) in
-    halve-done (u .pre .0) _ _ (c .before .before .before .before .before .before .before .before .before .before .segment-base .ensures) (c .before .before .before .before .before .before .before .before .before .before .before .read-segment .ensures) _ _ _ _ (c .before .before .before .before .before .before .before .before .copy-records .ensures) _ _ _ start
+    let u = c .before .before .before .before .before .before .before .before .before .before .before .before .before in
+    halve-done (u .pre .0) _ _ (c .before .before .before .before .before .before .before .before .before .before .segment-base .ensures) _ _ _ _ (c .before .before .before .before .before .before .before .before .copy-records .ensures) _ _ _ start
     (c .before .before .update-entries .ensures)
 
 pub halve-spec : {M : Type 1} → statement M
 halve-spec =
     tie.close
     (tie.spec
-    read-segment-requires
     segment-base-requires
     add-copy-records
     mul-copy-records

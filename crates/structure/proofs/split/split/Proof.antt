@@ -1,56 +1,52 @@
 -- `structure::split::split` meets its contract.
 -- Assumes nothing.
+use Rattle.structure.proofs.Splits.{no-segment, can-split, split-made}
 use native.Mathlib.Omega.{arith}
-use Rattle.stores.proofs.Loops.{executed-length}
-use Rattle.layout.proofs.Shapes.{bounds}
-use Rattle.layout.proofs.Places.{place-bounds}
-use Rattle.structure.proofs.Splits.{halvable, doubling-due, split-halved, split-doubled}
 use borrow.Author.Needs.{needs}
 use Rattle.structure.proofs.split.split.Statement.{statement}
 use Rattle.structure.proofs.split.split.Tie as tie
 
-double-requires : tie.Need-double-requires
-double-requires c κs = search needs
+returns : tie.Need-returns
+returns c = search needs
 
-add-halve : tie.Need-add-halve
-add-halve c = search needs
+free-segment-requires : tie.Need-free-segment-requires
+free-segment-requires c κs = search needs
 
-halve-requires : tie.Need-halve-requires
-halve-requires c κs =
-    let p = c .before .before .before .before .before .before .before .before .before .before .before .pre in
-    let d = c .before .before .before .before .double .ensures in
-    let deep = c .before .before .before .before .before .before .if1 .taken in
-    (halvable p _ _ (omega arith) (let r = p .local-room in omega arith) (executed-length d), omega (arith, doubling-due p deep _ _ _ d))
+enum-known-new-segment : tie.Need-enum-known-new-segment
+enum-known-new-segment c = search needs
+
+enum-told : tie.Need-enum-told
+enum-told c = search needs
 
 same-length : tie.Need-same-length
 same-length c = search needs
 
-returns : tie.Need-returns
-returns c =
-    split-doubled (c .before .before .before .before .before .before .before .before .before .before .before .before .before .before .pre) (c .before .before .before .before .before .before .before .before .before .if1 .taken) _ _ _ _ _ (c .before .before .before .before .before .before .before .double .ensures) (c .before .before .halve .ensures)
+returns-2 : tie.Need-returns-2
+returns-2 c =
+    no-segment (c .before .before .before .before .before .before .before .before .before .pre) (λ e. omega (arith, c .before .before .before .before .if1 .left)) (c .before .before .free-segment .ensures) (c .enum-told .given .1)
 
-halve-requires-2 : tie.Need-halve-requires-2
-halve-requires-2 c κs =
-    let p = c .before .before .before .before .before .before .pre in
-    let q = place-bounds (p .place) in
-    (halvable p _ _ (let r = q .local-low in omega (arith, c .before .if1 .left)) (bounds (p .place .header-read) .present) (search needs), omega arith)
+split-into-requires : tie.Need-split-into-requires
+split-into-requires c κs =
+    can-split (c .before .before .before .before .before .before .before .before .before .before .before .pre) (λ e. omega (arith, c .before .before .before .before .before .before .if1 .left)) (c .before .before .before .before .free-segment .ensures) (c .before .before .new-segment .given .1)
 
 same-length-2 : tie.Need-same-length-2
 same-length-2 c = search needs
 
-returns-2 : tie.Need-returns-2
-returns-2 c =
-    split-halved (c .before .before .before .before .before .before .before .before .before .pre) _ _ _ (c .before .before .before .before .if1 .left) (c .before .before .halve2 .ensures)
+returns-3 : tie.Need-returns-3
+returns-3 c =
+    split-made (c .before .before .before .before .before .before .before .before .before .before .before .before .before .before .pre) (λ e. omega (arith, c .before .before .before .before .before .before .before .before .before .if1 .left)) (c .before .before .before .before .before .before .before .free-segment .ensures) (c .before .before .before .before .before .new-segment .given .1)
+    (c .before .before .split-into .ensures)
 
 pub split-spec : {M : Type 1} → statement M
 split-spec =
     tie.close
     (tie.spec
-    double-requires
-    add-halve
-    halve-requires
-    same-length
     returns
-    halve-requires-2
+    free-segment-requires
+    enum-known-new-segment
+    enum-told
+    same-length
+    returns-2
+    split-into-requires
     same-length-2
-    returns-2)
+    returns-3)
