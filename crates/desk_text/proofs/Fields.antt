@@ -1,6 +1,6 @@
 -- A text in parts, one part after the other, and the call that a line's fields make.
 -- Assumes nothing.
-use Prim.Native.Nat.{ℕ, suc, _+_, _-_, _≤_, _<_}
+use Prim.Native.Nat.{ℕ, _+_, _-_, _≤_, _<_}
 use mathlib.Core.Path.{_≡_, refl, sym, ap, _∙_}
 use mathlib.Core.Bool.{Bool, true, false}
 use mathlib.Core.List.{List, [], _∷_, _++_, append-assoc}
@@ -9,9 +9,8 @@ use mathlib.Core.Logic.{⊎-elim}
 use native.Mathlib.Omega.{arith}
 use borrow.Author.Tests.{eqb-true, ne-eqb}
 use lib.Dec.{eqb}
-use lib.ListN.{length, take, drop, getD, length-drop}
-use lib.Seq.{take-length, drop-drop}
-use Rattle.bytes.specs.Bytes.{indexOf, indexAfter, slice}
+use lib.ListN.{length, take, drop, getD}
+use Rattle.bytes.specs.Bytes.{indexOf, slice}
 use Rattle.stores.specs.Lists.{pick}
 use Rattle.stores.proofs.Tests.{cases}
 use Rattle.text.specs.Parts.{tab, startedBy, parts, fieldsOf}

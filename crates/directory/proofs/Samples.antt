@@ -5,22 +5,17 @@ use mathlib.Core.Path.{_≡_, refl}
 use mathlib.Core.Bool.{true, false}
 use mathlib.Core.List.{List, [], _∷_}
 use mathlib.Core.Option.{Option, none, some}
-use lib.ListN.{replicate}
 use Rattle.stores.specs.Lists.{each}
 use Rattle.stores.specs.Store.{store}
 use Rattle.replies.specs.declared.Refusal.{Refusal}
-use Rattle.rules.specs.Layout.{depthIn, maxDepthIn, segmentsIn, markIn, validShape, validHeader, wordsFor, segmentOf, localDepth}
+use Rattle.rules.specs.Layout.{segmentOf, localDepth}
 use Rattle.rules.specs.Keys.{width}
 use Rattle.rules.specs.Scan.{inRange, validLeader}
-use Rattle.replies.specs.Replies.{Said, done, refused, numberOf}
-use Rattle.layout.specs.declared.header.HeaderRead.the-variants.{NotValid}
-use Rattle.layout.specs.declared.entry.Entry.the-variants.{At, Broken as BrokenEntry}
+use Rattle.replies.specs.Replies.{numberOf}
 use Rattle.directory.specs.declared.scan.Verdict.the-variants.{Broken, Unmended}
 use Rattle.directory.specs.declared.scan.LedBlock.{LedBlock}
 use Rattle.directory.specs.declared.scan.ScanStep.{ScanStep}
 use Rattle.directory.specs.declared.scan.ScanStep.the-variants.{In, Stop}
-use Rattle.layout.specs.Headers.{headerSaid, headerOf}
-use Rattle.layout.specs.Entries.{entrySaid, entryOf}
 use Rattle.directory.specs.Scans.{verdictOf, scanAt}
 use Rattle.directory.specs.Updates.{filling}
 

@@ -37,7 +37,7 @@ use Rattle.history.specs.Further.{saysDamage}
 use Rattle.history.proofs.Holds.{holds-found}
 use Rattle.history.proofs.Invariant.{Inv, Recovered, live-own, block-changed, block-recovered, shape-valid}
 use Rattle.history.proofs.Recover.{inv-key-segment, inv-get-tests, inv-directory-tests, inv-remove-tests, inv-mend-tests}
-use Rattle.history.proofs.Prefixes.{Whole, whole-kept}
+use Rattle.history.proofs.Kept.{Whole, whole-kept}
 use Rattle.history.proofs.Changes.{key-removed, updated-other}
 use Rattle.history.proofs.Mend.{mending-kept, mended-recovered}
 use Rattle.history.proofs.Plans.{PlanKept, refusal-kept, Good, CallKept, nothing-changed, plan-carried-out}

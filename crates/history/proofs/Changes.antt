@@ -14,7 +14,7 @@ use lib.ListN.{length, set, length-set}
 use lib.Pow.{pow-pos}
 use Rattle.stores.proofs.Tests.{cases}
 use Rattle.stores.proofs.Stores.{word-set-same, word-set-other}
-use Rattle.rules.specs.Layout.{wordsFor, entryAddress, segmentOf, localDepth, segmentAddress, keyAddress, valueAddress, keyAt, valueAt}
+use Rattle.rules.specs.Layout.{wordsFor, entryAddress, segmentOf, localDepth, keyAddress, valueAddress, keyAt, valueAt}
 use Rattle.rules.specs.Keys.{live, window}
 use Rattle.rules.specs.Slots.{hit}
 use Rattle.rules.proofs.Words.{Within, within-inside, key-within, value-within, entry-inside, segments-disjoint}

@@ -14,6 +14,7 @@ use Rattle.stores.specs.Store.{Store, word, store, apply, exec, Every}
 use Rattle.stores.proofs.Tests.{cases}
 use Rattle.stores.proofs.Lists.{each-suc, every-pick}
 use Rattle.stores.proofs.Stores.{apply-append, length-apply, length-exec, word-set-same, word-set-other}
+use Rattle.stores.proofs.Prefixes.{Always, always-whole, exec-elsewhere, apply-elsewhere}
 use Rattle.rules.specs.Layout.{entryAddress, entryAt, segmentOf, localDepth, segmentAddress, keyAddress, valueAddress, keyAt, valueAt}
 use Rattle.rules.specs.Keys.{live, window}
 use Rattle.rules.specs.Split.{moves, copySlot, copying}
@@ -22,7 +23,7 @@ use Rattle.rules.proofs.Keys.{live-nonzero, live-whole, live-split, window-lt}
 use Rattle.runs.specs.Map.{Map}
 use Rattle.history.proofs.Holds.{Holds, holds-same}
 use Rattle.history.proofs.Invariant.{Inv, Recovered, baseAt, SegmentSame, Framed, inv-framed}
-use Rattle.history.proofs.Prefixes.{Kept, Always, always-whole, exec-elsewhere, apply-elsewhere}
+use Rattle.history.proofs.Kept.{Kept}
 use Rattle.rules.proofs.Halving.{copying-within}
 use Rattle.rules.proofs.Blocks.{bitsAt}
 

@@ -7,6 +7,7 @@ use native.Mathlib.Omega.{arith}
 use lib.Pow.{pow-mono, pow-pos}
 use Rattle.stores.specs.Store.{Store, word, store, apply, exec}
 use Rattle.stores.proofs.Stores.{apply-append, length-exec}
+use Rattle.stores.proofs.Prefixes.{Always, always-whole, always-append, always-one, exec-elsewhere}
 use Rattle.rules.specs.Layout.{depth, maxDepth, segments, header, entryAddress, entryAt, segmentOf, localDepth, keyAt}
 use Rattle.rules.specs.Keys.{window}
 use Rattle.rules.specs.Split.{doubling}
@@ -16,7 +17,7 @@ use Rattle.rules.proofs.Blocks.{doubledDirectory, doubled-blocks, bitsAt}
 use Rattle.runs.specs.Map.{Map}
 use Rattle.history.proofs.Holds.{Holds}
 use Rattle.history.proofs.Invariant.{Shape, Directory, Inv, Recovered, LiveAt, baseAt, SegmentSame, Framed, inv-framed, recovered-lookups, shape-depth, shape-maxDepth, shape-segments, shape-valid, same-key, same-holds}
-use Rattle.history.proofs.Prefixes.{Kept, Always, always-whole, always-append, always-one, exec-elsewhere}
+use Rattle.history.proofs.Kept.{Kept}
 use Rattle.rules.proofs.Doubling.{DirectoryWord, doubledEntries, doubled-entries, doubling-parts, doubled-word-0, Doubled, after-doubling}
 
 -- No two blocks of the doubled directory share a segment.

@@ -5,14 +5,16 @@ use mathlib.Core.List.{List, _++_}
 use Prim.Native.Nat.{ℕ, _^_, _<_}
 use Rattle.stores.specs.Store.{Store, apply}
 use Rattle.stores.proofs.Stores.{apply-append}
+use Rattle.stores.proofs.Prefixes.{Always, always-append}
 use Rattle.rules.specs.Layout.{segmentOf, localDepth}
 use Rattle.rules.specs.Split.{halvingOf}
 use Rattle.rules.proofs.Blocks.{halvedDirectory}
+use Rattle.rules.proofs.Updating.{updates}
 use Rattle.runs.specs.Map.{Map}
 use Rattle.history.proofs.Invariant.{Inv, Recovered, shape-depth, shape-maxDepth}
-use Rattle.history.proofs.Prefixes.{Kept, Always, always-append}
+use Rattle.history.proofs.Kept.{Kept}
 use Rattle.history.proofs.Copy.{copied, copies-kept, copies}
-use Rattle.history.proofs.Update.{updates, updates-kept, updates-inv, updates-recovered}
+use Rattle.history.proofs.Update.{updates-kept, updates-inv, updates-recovered}
 
 module _ {m : Map} {g d S : ℕ} {f : ℕ → ℕ} {a : List ℕ} (inv : Inv m g d S f a) (same : Recovered g f a) (i : ℕ) (below : i < 2 ^ g)
     (room : localDepth (f i) < g) (n : ℕ) (new : n < S) (unnamed : (j : ℕ) → j < 2 ^ g → segmentOf (f j) ≡ n → ⊥) where

@@ -3,7 +3,7 @@ pub mod Samples
 pub mod Holds
 pub mod Invariant
 pub mod Recover
-pub mod Prefixes
+pub mod Kept
 pub mod Changes
 pub mod Double
 pub mod Halved

@@ -15,13 +15,14 @@ use Rattle.stores.specs.Store.{Store, apply, exec}
 use Rattle.stores.specs.Plan.{Plan, reply-only, _then_}
 use Rattle.stores.proofs.Tests.{cases}
 use Rattle.stores.proofs.Stores.{apply-append, exec-append, exec-all, exec-not-made}
+use Rattle.stores.proofs.Prefixes.{Always}
 use Rattle.replies.specs.declared.Refusal.{Refusal}
 use Rattle.replies.specs.Replies.{Said, refused, refuse, changed, isDone, isRefusal}
 use Rattle.replies.proofs.Outcomes.{Complete, CutShort, changed-cases}
 use Rattle.runs.specs.Map.{Map, View, fed}
 use Rattle.runs.specs.Run.{Point, isRecovery, recoveryAfter, advance, GetAgrees}
 use Rattle.history.specs.Further.{saysDamage}
-use Rattle.history.proofs.Prefixes.{Kept, Whole, whole-kept, Always}
+use Rattle.history.proofs.Kept.{Kept, Whole, whole-kept}
 
 -- A call's plan, against the map m: every number of its stores below all of them keeps m, and all of them leave, with no need
 -- of recovery, what the map is told of the call. It says neither 7, nor 1, 3 or 4.

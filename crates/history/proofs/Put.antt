@@ -13,7 +13,6 @@ use Rattle.stores.specs.Store.{store, apply, exec}
 use Rattle.stores.specs.Plan.{Plan}
 use Rattle.stores.proofs.Lists.{first-some, some-none}
 use Rattle.stores.proofs.Stores.{exec-not-made, word-set-same}
-use Rattle.replies.specs.declared.Refusal.{Refusal}
 use Rattle.replies.specs.declared.Refusal.the-variants.{TooDeep, NoSegment}
 use Rattle.rules.specs.Layout.{wordsFor, segmentOf, localDepth, segmentAddress, keyAddress, valueAddress, keyAt}
 use Rattle.rules.specs.Keys.{index, live, window}
@@ -29,7 +28,7 @@ use Rattle.runs.specs.Map.{Map, puts, fed, updated}
 use Rattle.history.proofs.Holds.{key-after-value, hit-after-value}
 use Rattle.history.proofs.Invariant.{Inv, Recovered, LiveAt, baseAt, live-above, live-own, block-changed, block-recovered, BlockChanged, shape-depth}
 use Rattle.history.proofs.Recover.{inv-put-tests, inv-key-entry, inv-key-segment}
-use Rattle.history.proofs.Prefixes.{Kept, Whole, whole-kept}
+use Rattle.history.proofs.Kept.{Kept, Whole, whole-kept}
 use Rattle.history.proofs.Plans.{PlanKept, refusal-kept, plan-after}
 use Rattle.history.proofs.Changes.{new-value, value-unseen, new-key}
 use Rattle.history.proofs.Split.{split-keeps}

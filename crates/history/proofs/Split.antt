@@ -13,6 +13,7 @@ use Rattle.stores.specs.Store.{Store, apply}
 use Rattle.stores.proofs.Tests.{cases}
 use Rattle.stores.proofs.Lists.{any-true}
 use Rattle.stores.proofs.Stores.{apply-append}
+use Rattle.stores.proofs.Prefixes.{Always, always-append}
 use Rattle.rules.specs.Layout.{depth, maxDepth, entryAt, segmentOf, localDepth}
 use Rattle.rules.specs.Keys.{index}
 use Rattle.rules.specs.Slots.{named, freeSegment}
@@ -24,7 +25,7 @@ use Rattle.rules.proofs.Blocks.{halvedDirectory}
 use Rattle.runs.specs.Map.{Map}
 use Rattle.history.proofs.Invariant.{Inv, Recovered, shape-depth, shape-maxDepth, shape-segments}
 use Rattle.history.proofs.Recover.{inv-key-entry}
-use Rattle.history.proofs.Prefixes.{Kept, Whole, Always, always-append}
+use Rattle.history.proofs.Kept.{Kept, Whole}
 use Rattle.history.proofs.Double.{doubling-kept, doubled, doubled-recovered}
 use Rattle.history.proofs.Halve.{halving-kept, halved, halved-recovered}
 

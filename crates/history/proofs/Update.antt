@@ -1,139 +1,31 @@
 -- The entry update of a split, from right to left: what holds after each number of its stores.
 -- Assumes nothing.
-use mathlib.Core.Path.{_≡_, sym, ap, _∙_}
+use mathlib.Core.Path.{_≡_, _∙_}
 use mathlib.Core.Bool.{true, false}
 use mathlib.Core.List.{List, List·Memᴰ}
 use mathlib.Core.Logic.{_⊎_, inl, inr, ⊎-elim}
 use Prim.Native.Nat.{ℕ, suc, _+_, _*_, _-_, _^_, _≤_, _<_}
-use native.Mathlib.Nat.{le-refl, mul-zero, mul-one, mul-add, mul-assoc, mul-left-comm}
 use native.Mathlib.Omega.{arith}
-use borrow.Author.Tests.{eqb-true, eqb-false, ltb-true, ltb-false, lt-ltb, le-ltb}
+use borrow.Author.Tests.{eqb-true, ltb-true, ltb-false}
 use lib.Dec.{eqb, ltb}
 use lib.ListN.{length}
 use Rattle.stores.specs.Lists.{pick}
-use Rattle.stores.specs.Store.{Store, word, apply, exec}
+use Rattle.stores.specs.Store.{word, apply, exec}
 use Rattle.stores.proofs.Tests.{cases}
 use Rattle.stores.proofs.Stores.{length-exec, exec-all}
+use Rattle.stores.proofs.Prefixes.{Always}
 use Rattle.rules.specs.Layout.{entryAddress, entryAt, segmentOf, localDepth, segmentAddress, keyAt}
-use Rattle.rules.specs.Keys.{width, blockBits, blockStart, live, window}
-use Rattle.rules.specs.Split.{halfEntry, updating}
-use Rattle.rules.proofs.Words.{entry-inside, entry-positive, entry-inj, within-inside, directories-below}
-use Rattle.rules.proofs.Keys.{width-half, blockStart-bits, blockStart-le, in-block, block-same, block-end, live-whole}
-use Rattle.rules.proofs.Bound.{length-updating}
+use Rattle.rules.specs.Keys.{width, blockStart, live, window}
+use Rattle.rules.proofs.Words.{entry-inside, entry-positive, within-inside, directories-below}
+use Rattle.rules.proofs.Keys.{block-end, live-whole}
 use Rattle.runs.specs.Map.{Map}
 use Rattle.history.proofs.Holds.{Holds}
 use Rattle.history.proofs.Invariant.{Directory, Inv, Recovered, LiveAt, baseAt, LookupAgrees, SegmentSame, segments-fit, shape-kept, same-key, same-holds, live-above}
-use Rattle.history.proofs.Prefixes.{Kept, Always, exec-elsewhere, single-made, single-not-made}
-use Rattle.rules.proofs.Halving.{BlockEntry, updating-block}
-use Rattle.rules.proofs.Blocks.{bitsAt, SameBlock, halvedDirectory, InBlock, Place}
+use Rattle.history.proofs.Kept.{Kept}
+use Rattle.rules.proofs.Updating.{same-start, length-updating, updating-elsewhere, updating-whole, updates, turnOf, entry-made, entry-not-made, entry-outside, all-made}
+use Rattle.rules.proofs.Blocks.{bitsAt, halvedDirectory, Place}
 use Rattle.history.proofs.Halved.{at-place, halved-directory}
 use Rattle.history.proofs.Copy.{Copied}
-
--- The stores of step 4 for index i's block.
-abbrev pub updates : (g : ℕ) → (ℕ → ℕ) → (i n : ℕ) → List Store
-updates g f i n = updating g (localDepth (f i)) (blockStart g (localDepth (f i)) i) (segmentOf (f i)) n
-
--- The number of the store that step 4 makes at index j, counted from 0.
-abbrev turn : (g : ℕ) → (ℕ → ℕ) → (i j : ℕ) → ℕ
-turn g f i j = blockStart g (localDepth (f i)) i + width g (localDepth (f i)) - suc j
-
-same-start : (g L i j : ℕ) → blockBits g L j ≡ blockBits g L i → blockStart g L j ≡ blockStart g L i
-same-start g L i j e = blockStart-bits g L j ∙ rw e (sym (blockStart-bits g L i))
-
--- An index of the block lies between its first index and its end.
-block-from : (g L i j : ℕ) → blockBits g L j ≡ blockBits g L i → blockStart g L i ≤ j
-block-from g L i j e = omega (arith, blockStart-le g L j, same-start g L i j e)
-
-block-to : (g L i j : ℕ) → blockBits g L j ≡ blockBits g L i → j < blockStart g L i + width g L
-block-to g L i j e = omega (arith, in-block g L j, same-start g L i j e)
-
-module _ (g : ℕ) (f : ℕ → ℕ) (i n : ℕ) (room : localDepth (f i) < g) where
-  -- Where the half begins that index j is in.
-  half-start : {j : ℕ} (p : InBlock g f i n j)
-      → blockStart g (suc (localDepth (f i))) j
-      ≡ blockStart g (localDepth (f i)) i + width g (suc (localDepth (f i))) * p .half
-  half-start {j} p =
-      let w : ℕ = width g (suc (localDepth (f i))) in
-      let x : ℕ = bitsAt g f i in
-      let whole : blockStart g (localDepth (f i)) i ≡ 2 * (w * x) =
-      blockStart-bits g (localDepth (f i)) i ∙ ap (λ (m : ℕ). m * x) (width-half g (localDepth (f i)) room) ∙ mul-assoc 2 w x in
-      let part : blockStart g (suc (localDepth (f i))) j ≡ 2 * (w * x) + w * p .half =
-      blockStart-bits g (suc (localDepth (f i))) j
-      ∙ ap (λ (m : ℕ). w * m) (p .half-bits)
-      ∙ mul-add w (2 * x) (p .half)
-      ∙ ap (λ (m : ℕ). m + w * p .half) (mul-left-comm w 2 x) in
-      omega arith
-
-  -- What step 4 stores at index j is the halved directory's entry.
-  half-entry : {j : ℕ} → InBlock g f i n j
-      → halfEntry g (localDepth (f i)) (segmentOf (f i)) n (turn g f i j) ≡ halvedDirectory g f i n j
-  unfolding halfEntry
-  half-entry {j} p =
-      let L : ℕ = localDepth (f i) in
-      let w : ℕ = width g (suc L) in
-      let from : blockStart g (suc L) j ≤ j = blockStart-le g (suc L) j in
-      let to : j < blockStart g (suc L) j + w = in-block g (suc L) j in
-      let start : blockStart g (suc L) j ≡ blockStart g L i + w * p .half = half-start p in
-      let double : width g L ≡ 2 * w = width-half g L room in
-      ⊎-elim
-      (λ (t : eqb (p .half) 1 ≡ true).
-      let e : w * p .half ≡ w = rw (eqb-true (p .half) 1 t) (mul-one w) in
-      let o : ltb (turn g f i j) w ≡ true = lt-ltb (turn g f i j) w (omega arith) in
-      rw (o, p .now, t))
-      (λ (t : eqb (p .half) 1 ≡ false).
-      let z : p .half ≡ 0 = omega (arith, p .small, eqb-false (p .half) 1 t) in
-      let e : w * p .half ≡ 0 = rw z (mul-zero w) in
-      let o : ltb (turn g f i j) w ≡ false = le-ltb (turn g f i j) w (omega arith) in
-      rw (o, p .now, t))
-      (cases (eqb (p .half) 1))
-
-  -- After t of the stores of step 4: the entries of the block from the right are the halved directory's.
-  module _ (c : List ℕ) (t : ℕ) where
-    entry-made : (j : ℕ) → InBlock g f i n j → entryAddress g j < length c → turn g f i j < t
-        → entryAt (exec (updates g f i n) t c) g j ≡ halvedDirectory g f i n j
-    unfolding updating
-    entry-made j p inside l =
-        let L : ℕ = localDepth (f i) in
-        let start : ℕ = blockStart g L i in
-        let w : ℕ = width g L in
-        let from : start ≤ j = block-from g L i j (p .block-bits) in
-        let to : j < start + w = block-to g L i j (p .block-bits) in
-        let back : start + (w - suc (turn g f i j)) ≡ j = omega arith in
-        let read =
-        single-made (λ u. entryAddress g (start + (w - suc u))) (halfEntry g L (segmentOf (f i)) n) w t c
-        (λ x y p q e. omega (arith, entry-inj g (start + (w - suc x)) (start + (w - suc y)) e))
-        (turn g f i j) (omega arith) l (rw back inside) in
-        rw back at read ∙ half-entry p
-
-    entry-not-made : (j : ℕ) → SameBlock g f i j → t ≤ turn g f i j
-        → entryAt (exec (updates g f i n) t c) g j ≡ entryAt c g j
-    unfolding updating
-    entry-not-made j e l =
-        let L : ℕ = localDepth (f i) in
-        let start : ℕ = blockStart g L i in
-        let w : ℕ = width g L in
-        let from : start ≤ j = block-from g L i j e in
-        let to : j < start + w = block-to g L i j e in
-        let back : start + (w - suc (turn g f i j)) ≡ j = omega arith in
-        let read =
-        single-not-made (λ u. entryAddress g (start + (w - suc u))) (halfEntry g L (segmentOf (f i)) n) w t c
-        (λ x y p q e. omega (arith, entry-inj g (start + (w - suc x)) (start + (w - suc y)) e))
-        (turn g f i j) (omega arith) l in
-        rw back at read
-
-    -- Elsewhere nothing changes.
-    updates-elsewhere : (at : ℕ) → (BlockEntry g (localDepth (f i)) (blockStart g (localDepth (f i)) i) at → ⊥)
-        → word (exec (updates g f i n) t c) at ≡ word c at
-    updates-elsewhere at =
-        exec-elsewhere (BlockEntry g (localDepth (f i)) (blockStart g (localDepth (f i)) i)) (updates g f i n) t c at
-        (updating-block g (localDepth (f i)) (blockStart g (localDepth (f i)) i) (segmentOf (f i)) n)
-
-    entry-outside : (j : ℕ) → (SameBlock g f i j → ⊥) → entryAt (exec (updates g f i n) t c) g j ≡ entryAt c g j
-    entry-outside j u =
-        updates-elsewhere (entryAddress g j)
-        (λ q.
-        let e : j ≡ q .number = entry-inj g j (q .number) (q .address) in
-        u (block-same g (localDepth (f i)) i j (omega (arith, q .from)) (omega (arith, q .to))))
 
 -- The array b, after some of the stores of step 4 on the array c: only entries have changed, and those to the halved directory's.
 record Updated (g d : ℕ) (f : ℕ → ℕ) (i n : ℕ) (c b : List ℕ) : Type 0 where
@@ -256,17 +148,17 @@ module _ {m : Map} {g d S : ℕ} {f : ℕ → ℕ} (i : ℕ) (below : i < 2 ^ g)
       → (entryAt (exec (updates g f i n) t c) g j ≡ f j) ⊎ (entryAt (exec (updates g f i n) t c) g j ≡ halvedDirectory g f i n j)
   entry-either t j h (inl p) =
       ⊎-elim
-      (λ (l : ltb (turn g f i j) t ≡ true).
-      inr (entry-made g f i n room c t j p (directory-inside j h) (ltb-true (turn g f i j) t l)))
-      (λ (l : ltb (turn g f i j) t ≡ false).
-      inl (entry-not-made g f i n room c t j (p .block-bits) (ltb-false (turn g f i j) t l) ∙ cp .recovered j h))
-      (cases (ltb (turn g f i j) t))
+      (λ (l : ltb (turnOf g f i j) t ≡ true).
+      inr (entry-made g f i n room c t j (p .block-bits) (directory-inside j h) (ltb-true (turnOf g f i j) t l)))
+      (λ (l : ltb (turnOf g f i j) t ≡ false).
+      inl (entry-not-made g f i n room c t j (p .block-bits) (ltb-false (turnOf g f i j) t l) ∙ cp .recovered j h))
+      (cases (ltb (turnOf g f i j) t))
   entry-either t j h (inr q) = inl (entry-outside g f i n room c t j (q .other) ∙ cp .recovered j h)
 
   -- A word outside the directory is not changed.
   updates-outside : (t at : ℕ) → ((k : ℕ) → k < 2 ^ g → at ≡ entryAddress g k → ⊥) → word (exec (updates g f i n) t c) at ≡ word c at
   updates-outside t at other =
-      updates-elsewhere g f i n room c t at
+      updating-elsewhere g (localDepth (f i)) (blockStart g (localDepth (f i)) i) (segmentOf (f i)) n c t at
       (λ q.
       let end = block-end g (localDepth (f i)) i (cp .inv .directory .entries .depths i below) below in
       other (q .number) (omega (arith, q .to)) (q .address))
@@ -291,17 +183,16 @@ module _ {m : Map} {g d S : ℕ} {f : ℕ → ℕ} (i : ℕ) (below : i < 2 ^ g)
   leader-kept t k l h (inr q) e = entry-outside g f i n room c t k (q .other) ∙ cp .recovered k h
 
   -- After the last store, every entry is the halved directory's.
-  all-made : (t j : ℕ) → width g (localDepth (f i)) ≤ t → j < 2 ^ g → Place g f i n j
-      → entryAt (exec (updates g f i n) t c) g j ≡ halvedDirectory g f i n j
-  all-made t j l h (inl p) =
-      entry-made g f i n room c t j p (directory-inside j h)
-      (omega
-      (arith, block-from g (localDepth (f i)) i j (p .block-bits), block-to g (localDepth (f i)) i j (p .block-bits)))
-  all-made t j l h (inr q) = entry-outside g f i n room c t j (q .other) ∙ cp .recovered j h ∙ sym (q .kept)
+  pub updates-recovered : Recovered g (halvedDirectory g f i n) (apply (updates g f i n) c)
+  updates-recovered j h = all-made g f i n room c j (directory-inside j h) (cp .recovered j h) (position j)
 
-  made-inv : (t : ℕ) → width g (localDepth (f i)) ≤ t → Inv m g d S (halvedDirectory g f i n) (exec (updates g f i n) t c)
-  made-inv t l = halved-inv (exec (updates g f i n) t c) (updated t) (λ j h. all-made t j l h (position j))
+  pub updates-inv : Inv m g d S (halvedDirectory g f i n) (apply (updates g f i n) c)
+  updates-inv =
+      halved-inv (apply (updates g f i n) c)
+      (rw (updating-whole g (localDepth (f i)) (blockStart g (localDepth (f i)) i) (segmentOf (f i)) n c) at (updated (width g (localDepth (f i)))))
+      updates-recovered
 
+  -- Fewer than all, or all.
   pub updates-kept : Always (Kept m d S) (updates g f i n) c
   updates-kept t =
       ⊎-elim
@@ -313,17 +204,12 @@ module _ {m : Map} {g d S : ℕ} {f : ℕ → ℕ} (i : ℕ) (below : i < 2 ^ g)
             (λ k h. leader-kept t k (ltb-true t (width g (localDepth (f i))) l) h (position k));
       })
       (λ (l : ltb t (width g (localDepth (f i))) ≡ false).
-      record { g = g; f = halvedDirectory g f i n; inv = made-inv t (ltb-false t (width g (localDepth (f i))) l) })
+      record {
+        g = g;
+        f = halvedDirectory g f i n;
+        inv = rw (exec-all (updates g f i n) t c (omega (arith, all, ltb-false t (width g (localDepth (f i))) l))) updates-inv;
+      })
       (cases (ltb t (width g (localDepth (f i)))))
-
-  all-updates : exec (updates g f i n) (width g (localDepth (f i))) c ≡ apply (updates g f i n) c
-  all-updates =
-      exec-all (updates g f i n) (width g (localDepth (f i))) c
-      (omega (arith, length-updating g (localDepth (f i)) (blockStart g (localDepth (f i)) i) (segmentOf (f i)) n))
-
-  pub updates-inv : Inv m g d S (halvedDirectory g f i n) (apply (updates g f i n) c)
-  updates-inv = rw all-updates at (made-inv (width g (localDepth (f i))) (le-refl (width g (localDepth (f i)))))
-
-  pub updates-recovered : Recovered g (halvedDirectory g f i n) (apply (updates g f i n) c)
-  updates-recovered j h =
-      rw (← all-updates) (all-made (width g (localDepth (f i))) j (le-refl (width g (localDepth (f i)))) h (position j))
+    where
+      all : length (updates g f i n) ≡ width g (localDepth (f i))
+      all = length-updating g (localDepth (f i)) (blockStart g (localDepth (f i)) i) (segmentOf (f i)) n

@@ -6,10 +6,10 @@ use mathlib.Core.List.{List, [], _∷_}
 use mathlib.Core.Option.{none, some}
 use Prim.Native.Nat.{ℕ, _+_, _*_, _≤_, _<_, min}
 use native.Mathlib.Omega.{arith}
-use borrow.Author.Tests.{le-leb, lt-leb, eq-eqb, ne-eqb}
+use borrow.Author.Tests.{le-leb, lt-leb}
 use lib.Dec.{leb}
 use lib.ListN.{length}
-use Rattle.stores.specs.Lists.{pick, each}
+use Rattle.stores.specs.Lists.{pick}
 use Rattle.stores.specs.Store.{store, word}
 use Rattle.stores.specs.Executed.{Executed}
 use Rattle.stores.proofs.Stores.{executed-append}
@@ -18,7 +18,7 @@ use Rattle.replies.specs.declared.Refusal.the-variants.{NoStore, Broken, BadSha
 use Rattle.replies.specs.declared.Answer.{Answer}
 use Rattle.rules.specs.declared.Call.the-variants.{Format, Get, Remove, Mend}
 use Rattle.rules.specs.Layout.{validShape, validHeader, wordsFor, header, depth, segments, segmentAddress, keyAddress, valueAddress}
-use Rattle.rules.specs.Scan.{inRange, leadersValid}
+use Rattle.rules.specs.Scan.{leadersValid}
 use Rattle.rules.specs.Slots.{hit}
 use Rattle.replies.specs.Replies.{Said, done, absent, refused, refuse, saidBy, unless, tested, replied}
 use Rattle.rules.specs.Format.{clearing, formatTests, formatStores, format}

@@ -19,7 +19,7 @@ use Rattle.replies.specs.declared.Refusal.the-variants.{NoStore, Broken, Unmend
 use Rattle.replies.specs.declared.Answer.{Answer}
 use Rattle.rules.specs.declared.Call.the-variants.{List as ListCall}
 use Rattle.rules.specs.Layout.{validHeader, depth, segments, entryAt, segmentOf, localDepth}
-use Rattle.rules.specs.Keys.{index, width}
+use Rattle.rules.specs.Keys.{width}
 use Rattle.rules.specs.Scan.{leader, leadersValid, entriesAgree}
 use Rattle.replies.specs.Replies.{done, refuse, unless, replied}
 use Rattle.rules.specs.Put.{directoryTests}

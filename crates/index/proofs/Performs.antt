@@ -1,15 +1,15 @@
 -- From a call's own promise to that of the performed call.
 -- Assumes nothing.
 use mathlib.Core.Path.{_≡_, refl, ap, _∙_}
-use mathlib.Core.Bool.{Bool, false, _&&_}
+use mathlib.Core.Bool.{false}
 use Prim.Native.Nat.{ℕ}
 use mathlib.Core.List.{List}
 use lib.ListN.{length}
 use Rattle.stores.specs.Plan.{Outcome}
 use Rattle.replies.specs.declared.Answer.{Answer}
-use Rattle.replies.specs.Replies.{Said, isDone}
+use Rattle.replies.specs.Replies.{Said}
 use Rattle.rules.specs.declared.Call.{Call}
-use Rattle.rules.specs.Step.{step, lists, WrittenIf, Performed}
+use Rattle.rules.specs.Step.{step, lists, Performed}
 use Rattle.rules.proofs.Local.{step-room}
 use Rattle.index.specs.Answered.{Answered}
 

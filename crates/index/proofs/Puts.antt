@@ -1,9 +1,8 @@
 -- The stores of a put at a slot, the cases of a put from what the code read, and a put behind a split.
 -- Assumes nothing.
 use mathlib.Core.Path.{_≡_, refl, sym, ap, _∙_}
-use mathlib.Core.Bool.{true, false, false≢true}
 use mathlib.Core.List.{List, [], _∷_}
-use mathlib.Core.Option.{none, some}
+use mathlib.Core.Option.{some}
 use Prim.Native.Nat.{ℕ, suc, _+_, _*_, _-_, _≤_, _<_, min}
 use native.Mathlib.Nat.{min-eq-left, sub-zero, zero-add}
 use native.Mathlib.Omega.{arith}
@@ -21,22 +20,17 @@ use Rattle.replies.specs.declared.Refusal.the-variants.{TooDeep, NoSegment, Cut
 use Rattle.replies.specs.declared.Reply.the-variants.{Refused as RefusedReply}
 use Rattle.replies.specs.declared.Answer.{Answer}
 use Rattle.rules.specs.declared.Call.the-variants.{Put}
-use Rattle.rules.specs.Layout.{depth, maxDepth, segments, entryAt, localDepth, segmentAddress, valueAddress}
-use Rattle.rules.specs.Keys.{index}
-use Rattle.rules.specs.Scan.{inRange}
-use Rattle.rules.specs.Slots.{found, into, full, choose, freeSegment}
+use Rattle.rules.specs.Layout.{maxDepth, localDepth, valueAddress}
+use Rattle.rules.specs.Slots.{found, into, full, freeSegment}
 use Rattle.replies.specs.Replies.{Said, refuse, saidBy, changed}
 use Rattle.rules.specs.Get.{keyEntry, keySegment}
 use Rattle.rules.specs.Split.{splitting}
 use Rattle.rules.specs.Put.{putTests, keyChoice, unused, put}
 use Rattle.rules.specs.Step.{effect, step}
-use Rattle.rules.proofs.Keys.{index-shift}
 use Rattle.rules.proofs.Split.{Splittable, unused-falls}
 use Rattle.rules.proofs.Range.{hit-slot, usable-slot}
 use Rattle.rules.proofs.Put.{put-refused, put-found, put-into, put-too-deep, put-no-segment, put-again, put-splittable, choice-found, choice-into}
 use Rattle.layout.specs.declared.place.Place.{Place}
-use Rattle.layout.proofs.Shapes.{bounds}
-use Rattle.layout.proofs.Places.{place-bounds}
 use Rattle.structure.specs.declared.split.SplitAnswer.{SplitAnswer}
 use Rattle.structure.specs.declared.split.SplitAnswer.the-variants.{Due, TooDeep as SplitTooDeep, NoSegment as SplitNoSegment}
 use Rattle.structure.specs.Splits.{SplitBy}

@@ -1,7 +1,7 @@
 -- Where segments stand: they fit in an array with a valid word 0; and a key's place.
 -- Assumes nothing.
 use mathlib.Core.Path.{_≡_, refl, sym, _∙_}
-use mathlib.Core.Bool.{true, false}
+use mathlib.Core.Bool.{true}
 use mathlib.Core.List.{List}
 use mathlib.Core.Option.{none, some}
 use Prim.Native.Nat.{ℕ, _+_, _^_, _≤_, _<_}
@@ -11,7 +11,6 @@ use Rattle.replies.specs.declared.Refusal.the-variants.{Broken as BrokenRefusal
 use Rattle.replies.specs.Replies.{unless}
 use Rattle.rules.specs.Layout.{depth, maxDepth, segments, validShape, wordsFor, entryAt, segmentOf, localDepth, segmentAddress}
 use Rattle.rules.specs.Keys.{directoryBits, firstBits, index}
-use Rattle.rules.specs.Scan.{inRange}
 use Rattle.rules.specs.Get.{keyEntry, keySegment, entryTests}
 use Rattle.rules.proofs.Words.{valid-header}
 use Rattle.rules.proofs.Keys.{first-lt, index-first}

@@ -14,7 +14,6 @@ use Rattle.replies.specs.Replies.{Said, saidBy}
 use Rattle.rules.specs.Step.{step, lists, Performed}
 use Rattle.replies.proofs.Sayable.{Sayable}
 use Rattle.rules.proofs.Said.{step-sayable}
-use Rattle.index.specs.Answered.{Answered}
 use Rattle.index.proofs.Performs.{answered-performed}
 use Rattle.page_index.specs.declared.PageIndexReply.{PageIndexReply}
 use Rattle.page_index.specs.Told.{Tells, Told, ToldList}

@@ -3,12 +3,11 @@
 use Prim.Native.Nat.{ℕ}
 use mathlib.Core.Path.{_≡_, ap, _∙_}
 use mathlib.Core.List.{List}
-use lib.ListN.{length}
 use Rattle.stores.specs.Plan.{Outcome}
 use Rattle.replies.specs.declared.Answer.{Answer}
 use Rattle.rules.specs.declared.Call.the-variants.{List as ListCall}
 use Rattle.replies.specs.Replies.{Said, saidBy}
-use Rattle.rules.specs.Step.{step, Performed}
+use Rattle.rules.specs.Step.{Performed}
 use Rattle.index.specs.Answered.{Answered}
 use Rattle.page_index.specs.declared.PageIndexReply.{PageIndexReply}
 use Rattle.page_index.specs.Told.{Tells, Told, ToldList, codeOf, valueOf}

@@ -19,11 +19,12 @@ use Rattle.rules.specs.Layout.{depth, maxDepth, segments, header, entryA
 use Rattle.rules.specs.Keys.{width}
 use Rattle.replies.specs.Replies.{Said}
 use Rattle.rules.specs.Get.{keyEntry}
-use Rattle.rules.specs.Split.{doubling, moves, copySlot, copying, halfEntry, updating, halving, doublingFor, splitting}
+use Rattle.rules.specs.Split.{doubling, moves, copySlot, copying, halving, doublingFor, splitting}
 use Rattle.rules.specs.Put.{putTests, put}
 use Rattle.rules.proofs.Keys.{width-pos, width-full, width-half, block-end}
 use Rattle.rules.proofs.Put.{Passed, passed, Cases, put-refused, put-induction}
 use Rattle.rules.proofs.Doubling.{doubledEntries, doubling-parts}
+use Rattle.rules.proofs.Updating.{length-updating}
 use Rattle.rules.proofs.Halving.{keyStart, keyBits, keyCopies, keyUpdates, halving-parts}
 use Rattle.rules.proofs.Split.{Ready, ready, Splittable, AfterSplit, after-split}
 
@@ -45,11 +46,6 @@ length-copying a from to L bits =
     two : (t : Bool) (x y z : Store) → length (pick t (x ∷ y ∷ []) (z ∷ [])) ≤ 2
     two true x y z = omega arith
     two false x y z = omega arith
-
-pub length-updating : (g L start s n : ℕ) → length (updating g L start s n) ≡ width g L
-unfolding updating
-length-updating g L start s n =
-    length-each-ones (λ t. store (entryAddress g (start + (width g L - suc t))) (halfEntry g L s n t)) (width g L)
 
 pub length-halving : (a : List ℕ) (key n : ℕ) → length (halving a key n) ≤ 128 + width (depth a) (localDepth (keyEntry a key))
 length-halving a key n =

@@ -7,6 +7,7 @@ pub mod Keys
 pub mod Scan
 pub mod Blocks
 pub mod Doubling
+pub mod Updating
 pub mod Halving
 pub mod Split
 pub mod Put

@@ -2,22 +2,21 @@
 -- after a split, so that 1 to 4 are given before the first store or not at all.
 -- Assumes nothing.
 use mathlib.Core.Path.{_≡_, refl, sym, ap, _∙_}
-use mathlib.Core.Bool.{Bool, true, false, not}
+use mathlib.Core.Bool.{true, false}
 use mathlib.Core.List.{List, []}
 use mathlib.Core.Option.{Option, none, some}
 use mathlib.Core.Logic.{_⊎_, inl, inr, ⊎-elim}
-use Prim.Native.Nat.{ℕ, suc, _+_, _*_, _/_, _%_, _^_, _≤_, _<_}
+use Prim.Native.Nat.{ℕ, suc, _^_, _≤_, _<_}
 use native.Mathlib.Omega.{arith}
-use borrow.Author.Tests.{eqb-true, eqb-false, eq-eqb, ne-eqb, lt-ltb, le-ltb}
-use lib.Dec.{ltb, eqb}
-use Rattle.stores.specs.Lists.{pick}
+use borrow.Author.Tests.{eqb-true, ne-eqb}
+use lib.Dec.{eqb}
 use Rattle.stores.specs.Store.{apply}
 use Rattle.stores.specs.Plan.{Plan, Outcome}
 use Rattle.stores.proofs.Lists.{some-none}
-use Rattle.stores.proofs.Tests.{cases, pick-not}
+use Rattle.stores.proofs.Tests.{cases}
 use Rattle.stores.proofs.Stores.{apply-append}
-use Rattle.rules.specs.Layout.{depthIn, depth, maxDepth, segments, entryAddress, entryAt, entry, segmentOf, localDepth}
-use Rattle.rules.specs.Keys.{index, width, blockBits, blockStart}
+use Rattle.rules.specs.Layout.{depthIn, depth, maxDepth, segments, entryAddress, entryAt, localDepth}
+use Rattle.rules.specs.Keys.{index}
 use Rattle.rules.specs.Scan.{leadersValid, entriesAgree}
 use Rattle.rules.specs.Get.{keyEntry, keySegment, keyTests}
 use Rattle.rules.specs.Split.{doubling, halving, doublingFor, splitting}
@@ -32,11 +31,12 @@ use Rattle.rules.specs.Remove.{removeTests, clearedAt, remove}
 use Rattle.rules.specs.Mend.{mendTests, mend}
 use Rattle.rules.specs.Step.{Effect, changes, answers, effect, carriedOut, step}
 use Rattle.replies.proofs.Outcomes.{Complete, CutShort, changed-cases, refused-not-done, refused-inj}
-use Rattle.rules.proofs.Words.{ValidHeader, header-valid, small, entry-inside, entry-inj, within-inside}
-use Rattle.rules.proofs.Keys.{index-lt, width-half, blockStart-bits, blockStart-le, in-block, block-same, bits-half}
-use Rattle.rules.proofs.Blocks.{bitsAt, Blocks, consistent-blocks, blocks-valid, blocks-agree, doubled-blocks, halvedDirectory, InBlock, Outside, place, halved-blocks}
+use Rattle.rules.proofs.Words.{ValidHeader, header-valid, small, entry-inside}
+use Rattle.rules.proofs.Keys.{index-lt}
+use Rattle.rules.proofs.Blocks.{Blocks, consistent-blocks, blocks-valid, blocks-agree, doubled-blocks, halvedDirectory, place, halved-blocks}
 use Rattle.rules.proofs.Doubling.{Doubled, after-doubling, entry-of-key}
-use Rattle.rules.proofs.Halving.{Halved, after-halving}
+use Rattle.rules.proofs.Updating.{all-made}
+use Rattle.rules.proofs.Halving.{keyCopies, keyUpdates, halving-parts, copies-elsewhere, between-room, after-halving}
 use Rattle.rules.proofs.Split.{Splittable, Ready, ready, AfterSplit, after-split}
 use Rattle.rules.proofs.Range.{dueBy}
 use Rattle.rules.proofs.Put.{Passed, tests-number, put-refused, Cases, put-induction}
@@ -51,28 +51,6 @@ blocks-same {g} {S} {f} h dir same =
       below = λ i k. rw (same i k) (dir .below i k);
       blocks = λ i j k l e. same j l ∙ dir .blocks i j k l (rw (same i k) at e) ∙ sym (same i k);
     }
-
--- An index of a block is in its left half where the next bit is 0.
-left-half : (g L i j : ℕ) → L < g → blockBits g L j ≡ blockBits g L i
-    → ltb j (blockStart g L i + width g (suc L)) ≡ not (eqb (blockBits g (suc L) j % 2) 1)
-left-half g L i j l e =
-    let w : ℕ = width g (suc L) in
-    let q : ℕ = blockBits g (suc L) j in
-    let twice : width g L ≡ 2 * w = width-half g L l in
-    let half : q / 2 ≡ blockBits g L i = bits-half g L j l ∙ e in
-    let start : blockStart g L i ≡ w * (2 * blockBits g L i) = blockStart-bits g L i ∙ rw twice (omega arith) in
-    let low : w * q ≤ j = rw (blockStart-bits g (suc L) j) at (blockStart-le g (suc L) j) in
-    let high : j < w * q + w = rw (blockStart-bits g (suc L) j) at (in-block g (suc L) j) in
-    ⊎-elim
-    (λ (t : eqb (q % 2) 1 ≡ true).
-    let odd : q ≡ 2 * blockBits g L i + 1 = omega (arith, eqb-true (q % 2) 1 t) in
-    let past : w * (2 * blockBits g L i + 1) ≤ j = rw odd at low in
-    rw t (le-ltb j (blockStart g L i + w) (omega (arith, start, past))))
-    (λ (t : eqb (q % 2) 1 ≡ false).
-    let even : q ≡ 2 * blockBits g L i = omega (arith, eqb-false (q % 2) 1 t) in
-    let before : j < w * (2 * blockBits g L i) + w = rw even at high in
-    rw t (lt-ltb j (blockStart g L i + w) (omega (arith, start, before))))
-    (cases (eqb (q % 2) 1))
 
 -- Steps 3 and 4 leave the directory halved at the key's index.
 module _ (c : List ℕ) (key n : ℕ) (v : ValidHeader c) (new : n < segments c) (dir : Blocks (depth c) (segments c) (entryAt c (depth c)))
@@ -92,50 +70,19 @@ module _ (c : List ℕ) (key n : ℕ) (v : ValidHeader c) (new : n < segments c)
   abbrev b : List ℕ
   b = apply (halving c key n) c
 
-  left : Halved c key n b
-  left = after-halving c key n v new room
-
   own-room : localDepth (f i) < g
   own-room = rw own at room
 
   fits : segments c < 2 ^ 32
   fits = small v .segments-32
 
-  in-halves : (j : ℕ) → j < 2 ^ g → InBlock g f i n j → entryAt b g j ≡ halvedDirectory g f i n j
-  unfolding halvedDirectory
-  in-halves j h p =
-      let L : ℕ = localDepth (f i) in
-      let start : blockStart g L j ≡ blockStart g L i =
-      blockStart-bits g L j ∙ ap (λ (x : ℕ). width g L * x) (p .block-bits) ∙ sym (blockStart-bits g L i)
-      in
-      let low : blockStart g L i ≤ j = rw start at (blockStart-le g L j) in
-      let high : j < blockStart g L i + width g L = rw start at (in-block g L j) in
-      let stored = (rw own at (left .block j)) low high in
-      rw (eq-eqb (blockBits g L j) (bitsAt g f i) (p .block-bits))
-      (stored
-      ∙ ap (λ (s : ℕ). entry s (suc L))
-      (ap (λ (t : Bool). pick t (segmentOf (f i)) n) (left-half g L i j own-room (p .block-bits))
-      ∙ pick-not (eqb (blockBits g (suc L) j % 2) 1) (segmentOf (f i)) n))
-
-  elsewhere : (j : ℕ) → j < 2 ^ g → Outside g f i n j → entryAt b g j ≡ halvedDirectory g f i n j
-  elsewhere j h p =
-      left .elsewhere (entryAddress g j)
-      (record {
-        not-new = λ w.
-            omega (
-              arith,
-              within-inside (maxDepth c) (segments c) n (entryAddress g j) new w .behind,
-              entry-inside (maxDepth c) g j (v .present) h,
-            );
-        not-block = λ w.
-            let e : w .number ≡ j = sym (entry-inj g j (w .number) (w .address)) in
-            p .other
-            (block-same g (localDepth (f i)) i j (rw (e, own) at (w .from)) (rw (e, own) at (w .to)));
-      })
-      ∙ sym (p .kept)
-
   halved-entries : (j : ℕ) → j < 2 ^ g → entryAt b g j ≡ halvedDirectory g f i n j
-  halved-entries j h = ⊎-elim (in-halves j h) (elsewhere j h) (place dir fits i (index-lt key g) own-room n new j)
+  halved-entries j h =
+      let made =
+      all-made g f i n own-room (apply (keyCopies c key n) c) j (between-room c key n v new j h)
+      (copies-elsewhere c key n v new (entryAddress g j) (entry-inside (maxDepth c) g j (v .present) h))
+      (place dir fits i (index-lt key g) own-room n new j) in
+      rw (halving-parts c key n, apply-append (keyCopies c key n) (keyUpdates c key n) c) (rw (← own) at made)
 
   after-halving-blocks : Blocks g (segments c) (entryAt b g)
   after-halving-blocks =

@@ -7,7 +7,7 @@ use mathlib.Core.List.{List, [], _∷_, _++_}
 use Rattle.stores.proofs.Tests.{and-left, and-right, and-true}
 use Rattle.replies.specs.Replies.{Said}
 use Rattle.runs.specs.Map.{mapSays}
-use Rattle.runs.specs.Run.{Machine, Point, start, claimed, next, finish, Linked, mayCall, validRun, Reached, EachCall, CallAgrees, LookupsAgree, AgreesWithMap, RunsAgree}
+use Rattle.runs.specs.Run.{Machine, Point, start, claimed, next, finish, Linked, mayCall, validRun, Reached, EachCall, CallAgrees, RunsAgree}
 
 -- ---- A run of one call more
 

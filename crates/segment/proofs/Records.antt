@@ -4,12 +4,11 @@ use Prim.Native.Nat.{ℕ, zero, suc, _+_, _*_, _≤_, _<_}
 use native.Mathlib.Nat.{add-zero, eq-or-lt-of-le, le-of-suc-le-suc, not-suc-le-zero}
 use native.Mathlib.Numerals.{add-one}
 use native.Mathlib.Omega.{arith}
-use mathlib.Core.Path.{_≡_, refl, sym, ap, _∙_}
+use mathlib.Core.Path.{_≡_, refl, ap, _∙_}
 use mathlib.Core.Bool.{true, false}
-use mathlib.Core.List.{List, [], _∷_, _++_, append-assoc, append-nil}
+use mathlib.Core.List.{List, [], _∷_, _++_}
 use mathlib.Core.Logic.{⊎-elim}
-use lib.ListN.{length, take, drop, set, length-append, take-append-drop}
-use lib.Seq.{length-take-le, sets-eq, take-at, drop-append-add, drop-drop}
+use lib.ListN.{length, set, length-append}
 use Rattle.stores.specs.Lists.{each}
 use Rattle.stores.proofs.Lists.{each-zero, each-suc}
 use Rattle.rules.specs.Layout.{keyAt, valueAt}

@@ -1,9 +1,9 @@
 -- What the listing of one segment promises.
 -- Assumes nothing.
-use Prim.Native.Nat.{ℕ, _+_, _≤_}
+use Prim.Native.Nat.{ℕ, _≤_}
 use mathlib.Core.Path.{_≡_}
-use mathlib.Core.List.{List, _++_}
-use lib.ListN.{length, take, drop}
+use mathlib.Core.List.{List}
+use lib.ListN.{length}
 use Rattle.stores.specs.Lists.{each}
 use Rattle.rules.specs.Listing.{Record, liveRecord, wordsOf}
 use Rattle.layout.specs.declared.key.Block.{Block}

@@ -3,6 +3,7 @@ pub mod Samples
 pub mod Tests
 pub mod Lists
 pub mod Stores
+pub mod Prefixes
 pub mod Parts
 pub mod Plans
 pub mod Written

@@ -1,6 +1,6 @@
 -- What the code of a split asks and leaves.
 -- Assumes nothing.
-use mathlib.Core.Path.{_≡_, refl, sym, ap, _∙_}
+use mathlib.Core.Path.{_≡_, refl, sym, _∙_}
 use mathlib.Core.Bool.{true, false}
 use mathlib.Core.List.{List, _++_}
 use mathlib.Core.Option.{some}
@@ -15,8 +15,8 @@ use Rattle.stores.specs.Store.{word, apply}
 use Rattle.stores.specs.Executed.{Executed, dueLimit}
 use Rattle.stores.proofs.Stores.{executed-append}
 use Rattle.stores.proofs.Loops.{executed-length}
-use Rattle.rules.specs.Layout.{depth, maxDepth, segments, header, segmentAddress, segmentOf, localDepth}
-use Rattle.rules.specs.Keys.{firstBits, blockStart}
+use Rattle.rules.specs.Layout.{depth, maxDepth, header, segmentAddress, localDepth}
+use Rattle.rules.specs.Keys.{firstBits}
 use Rattle.rules.specs.Slots.{freeSegment}
 use Rattle.rules.specs.Get.{keyEntry}
 use Rattle.rules.specs.Split.{doubling, copying, updating, halving, doublingFor, splitting}

@@ -1,6 +1,6 @@
 -- `desk_run::run_line` meets its contract.
 -- Assumes nothing.
-use mathlib.Core.Path.{refl, sym, ap, _∙_}
+use mathlib.Core.Path.{sym, ap, _∙_}
 use Rattle.desk_text.specs.Line.{lineSaid}
 use Rattle.desk_run.proofs.Runs.{line-other, line-called}
 use borrow.Author.Needs.{needs}

@@ -1,8 +1,8 @@
 -- `desk_run::run_lines` meets its contract. The invariant: the lines so far have been run, and the others have room.
 -- Assumes nothing.
 use mathlib.Core.Path.{_≡_, refl}
-use Prim.Native.Nat.{_+_, _-_, _*_, _≤_}
-use lib.ListN.{length, drop}
+use Prim.Native.Nat.{_-_}
+use lib.ListN.{length}
 use native.Mathlib.Omega.{arith}
 use borrow.Author.Needs.{needs}
 use Rattle.desk_run.specs.Progress.{LinesRan}

@@ -1,4 +1,4 @@
--- What holds after every number of stores: the map kept under every allowance, and what is read after a prefix of stores.
+-- What holds after every number of stores, and what is read after a prefix of them.
 -- Assumes nothing.
 use mathlib.Core.Path.{_≡_, sym, ap, _∙_}
 use mathlib.Core.Bool.{true, false}
@@ -11,31 +11,11 @@ use borrow.Author.Tests.{leb-true, leb-false}
 use lib.Dec.{leb}
 use lib.ListN.{length, take}
 use lib.Seq.{take-all, take-nil}
 use Rattle.stores.specs.Lists.{each}
 use Rattle.stores.specs.Store.{Store, word, store, apply, exec, Every}
 use Rattle.stores.proofs.Tests.{cases}
 use Rattle.stores.proofs.Lists.{each-zero, each-suc, length-each-ones, every-take, every-each, every-map}
 use Rattle.stores.proofs.Stores.{exec-all, exec-none, exec-not-made, take-append, exec-append, word-elsewhere, read-each}
-use Rattle.runs.specs.Map.{Map}
-use Rattle.history.proofs.Invariant.{Inv, Recovered}
-
--- ---- The invariant with the depth and the directory left open
-
--- The array keeps the map m: the invariant holds with some depth and some directory.
-pub record Kept (m : Map) (d S : ℕ) (a : List ℕ) : Type 0 where
-  pub g : ℕ
-  pub f : ℕ → ℕ
-  pub inv : Inv m g d S f a
-
--- It keeps the map m, and needs no recovery.
-pub record Whole (m : Map) (d S : ℕ) (a : List ℕ) : Type 0 where
-  pub g : ℕ
-  pub f : ℕ → ℕ
-  pub inv : Inv m g d S f a
-  pub recovered : Recovered g f a
-
-pub whole-kept : {m : Map} {d S : ℕ} {a : List ℕ} → Whole m d S a → Kept m d S a
-whole-kept w = record { g = w .g; f = w .f; inv = w .inv }
 
 -- ---- After every number of stores
 
