@@ -3,13 +3,14 @@
 use Prim.Native.Nat.{ℕ, _+_, _-_, _≤_, _<_}
 use mathlib.Core.Path.{_≡_, refl, sym, ap, _∙_}
 use mathlib.Core.Bool.{Bool, true, false}
-use mathlib.Core.List.{List, [], _∷_, _++_, append-assoc}
+use mathlib.Core.List.{List, [], _∷_, _++_}
 use mathlib.Core.Option.{Option, none, some}
 use mathlib.Core.Logic.{⊎-elim}
 use native.Mathlib.Omega.{arith}
 use borrow.Author.Tests.{eqb-true, ne-eqb}
 use lib.Dec.{eqb}
 use lib.ListN.{length, take, drop, getD}
+use Rattle.stores.proofs.Lists.{ahead, ahead-nil, ahead-ahead}
 use Rattle.bytes.specs.Bytes.{indexOf, slice}
 use Rattle.stores.specs.Lists.{pick}
 use Rattle.stores.proofs.Tests.{cases}
@@ -17,16 +18,6 @@ use Rattle.text.specs.Parts.{tab, startedBy, parts, fieldsOf}
 use Rattle.text.specs.Number.{number}
 use Rattle.text.proofs.Parts.{behind, parts-first, part-first, part-last, part-more}
 use Rattle.desk_text.specs.Line.{Spoken, both, numbersOf, callWith, calledWith, callOfFields, callOf}
-
--- Numbers in front of what may be numbers.
-unfoldable pub ahead : List ℕ → Option (List ℕ) → Option (List ℕ)
-ahead ns none = none
-ahead ns (some ms) = some (ns ++ ms)
-
-ahead-ahead : (ns ms : List ℕ) (o : Option (List ℕ)) → ahead ns (ahead ms o) ≡ ahead (ns ++ ms) o
-unfolding ahead
-ahead-ahead ns ms none = refl
-ahead-ahead ns ms (some ks) = ap some (sym (append-assoc ns ms ks))
 
 both-some : (x : ℕ) (o : Option (List ℕ)) → both (some x) o ≡ ahead (x ∷ []) o
 unfolding both ahead
@@ -86,11 +77,7 @@ pub read-tabbed : (line : List ℕ) → 1 < length line → getD line 1 0 ≡ ta
 unfolding fieldsOf parts ahead
 read-tabbed [] h e = absurd (omega arith)
 read-tabbed (c ∷ []) h e = absurd (omega arith)
-read-tabbed (c ∷ d ∷ xs) h e = call-of-fields c (d ∷ xs) (parts tab xs) (rw e refl) ∙ ap (calledWith c) (nothing-ahead (numbersOf (parts tab xs)))
-  where
-    nothing-ahead : (o : Option (List ℕ)) → o ≡ ahead [] o
-    nothing-ahead none = refl
-    nothing-ahead (some ns) = refl
+read-tabbed (c ∷ d ∷ xs) h e = call-of-fields c (d ∷ xs) (parts tab xs) (rw e refl) ∙ ap (calledWith c) (sym (ahead-nil (numbersOf (parts tab xs))))
 
 module _ (line : List ℕ) (letter start end : ℕ) (ns : List ℕ) (h : start ≤ length line)
     (e : end ≡ start + indexOf tab (slice start (length line) line)) (r : Reading line letter start ns)

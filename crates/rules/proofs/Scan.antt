@@ -12,7 +12,7 @@ use native.Mathlib.Omega.{arith}
 use borrow.Author.Tests.{eqb-true, eqb-false, leb-true, le-leb, ltb-true, ltb-false, lt-ltb, eq-eqb, ne-eqb}
 use lib.Dec.{leb, ltb, eqb}
 use Rattle.stores.specs.Lists.{pick, each, allBelow}
-use Rattle.stores.proofs.Lists.{each-zero, each-suc, all-at, all-true}
+use Rattle.stores.proofs.Lists.{each-zero, each-suc, all-at, all-true, ahead, ahead-nil}
 use Rattle.stores.proofs.Tests.{cases, and-left, and-right, and-true}
 use Rattle.rules.specs.Layout.{entryAt, segmentOf, localDepth}
 use Rattle.rules.specs.Keys.{width, blockStart}
@@ -198,20 +198,11 @@ consistent-agree a g S e = and-right (leadersValid a g S) (entriesAgree a g) e
 
 -- ---- The two scans agree
 
--- The leaders found from an index on, behind a list of leaders before it.
-joined : List ℕ → Option (List ℕ) → Option (List ℕ)
-joined before none = none
-joined before (some found) = some (before ++ found)
-
-joined-nil : (r : Option (List ℕ)) → joined [] r ≡ r
-unfolding joined
-joined-nil none = refl
-joined-nil (some found) = refl
-
-joined-led : (before : List ℕ) (i : ℕ) (r : Option (List ℕ)) → joined before (ledBy i r) ≡ joined (before ++ (i ∷ [])) r
-unfolding joined ledBy
-joined-led before i none = refl
-joined-led before i (some found) = ap (λ (l : List ℕ). some l) (sym (append-assoc before (i ∷ []) found))
+-- A leader found, behind the leaders before it.
+ahead-led : (before : List ℕ) (i : ℕ) (r : Option (List ℕ)) → ahead before (ledBy i r) ≡ ahead (before ++ (i ∷ [])) r
+unfolding ahead ledBy
+ahead-led before i none = refl
+ahead-led before i (some found) = ap (λ (l : List ℕ). some l) (sym (append-assoc before (i ∷ []) found))
 
 -- Of i and the k indices behind it, only i adds to the joined list.
 pub each-one : {A : Type 0} (f : ℕ → List A) (i k : ℕ) → ((j : ℕ) → i < j → j < i + suc k → f j ≡ []) → each f (i + suc k) ≡ each f i ++ f i
@@ -240,8 +231,8 @@ module _ (a : List ℕ) (g S : ℕ) where
   scanned = pick (allBelow passes (2 ^ g)) (some (each adds (2 ^ g))) none
 
   -- At the end of the directory.
-  at-end : (i : ℕ) → i ≡ 2 ^ g → ((j : ℕ) → j < i → passes j ≡ true) → joined (each adds i) (some []) ≡ scanned
-  unfolding joined
+  at-end : (i : ℕ) → i ≡ 2 ^ g → ((j : ℕ) → j < i → passes j ≡ true) → ahead (each adds i) (some []) ≡ scanned
+  unfolding ahead
   at-end i e before = rw (e, append-nil, all-true passes (2 ^ g) (rw e at before))
 
   -- At a leader that is not valid.
@@ -280,8 +271,8 @@ module _ (a : List ℕ) (g S : ℕ) where
 
   -- From an index that leads, or 2^g, all leaders before it being valid, in enough steps.
   scan-from : (n i : ℕ) → i ≤ 2 ^ g → leader a g i ≡ i → ((j : ℕ) → j < i → passes j ≡ true) → 2 ^ g ≤ i + n
-      → joined (each adds i) (leadersFrom a g S n i) ≡ scanned
-  unfolding leadersFrom joined
+      → ahead (each adds i) (leadersFrom a g S n i) ≡ scanned
+  unfolding leadersFrom ahead
   scan-from zero i h own before enough = at-end i (omega arith) before
   scan-from (suc n) i h own before enough =
       ⊎-elim
@@ -290,7 +281,7 @@ module _ (a : List ℕ) (g S : ℕ) where
       ⊎-elim
       (λ (v : validLeader g S i (entryAt a g i) ≡ true).
       rw (t, v)
-      (joined-led (each adds i) i (leadersFrom a g S n (i + ledWidth a g i))
+      (ahead-led (each adds i) i (leadersFrom a g S n (i + ledWidth a g i))
       ∙ rw (← block-adds i k own v)
       (scan-from n (i + ledWidth a g i) (block-fits i k own v) (next-leads a g i own (valid-aligned g S i (entryAt a g i) v)) (block-passes i k own v before)
       (omega (arith, width-pos g (localDepth (entryAt a g i)))))))
@@ -304,6 +295,6 @@ module _ (a : List ℕ) (g S : ℕ) where
 pub scan-agrees : (a : List ℕ) (g S : ℕ) → leadersFrom a g S (2 ^ g) 0 ≡ pick (leadersValid a g S) (some (leaders a g)) none
 unfolding leadersValid leaders
 scan-agrees a g S =
-    sym (joined-nil (leadersFrom a g S (2 ^ g) 0))
-    ∙ ap (λ (l : List ℕ). joined l (leadersFrom a g S (2 ^ g) 0)) (sym (each-zero (adds a g S)))
+    sym (ahead-nil (leadersFrom a g S (2 ^ g) 0))
+    ∙ ap (λ (l : List ℕ). ahead l (leadersFrom a g S (2 ^ g) 0)) (sym (each-zero (adds a g S)))
     ∙ scan-from a g S (2 ^ g) 0 (omega arith) (leader-zero a g) (λ j k. absurd (not-suc-le-zero k)) (omega arith)

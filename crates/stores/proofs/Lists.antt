@@ -1,8 +1,8 @@
--- Laws of the joined list, of the first element that passes, and of tests over all numbers below a bound.
+-- Laws of the joined list, of the first element that passes, of tests over all numbers below a bound, and of numbers in front of others.
 -- Assumes nothing.
 use mathlib.Core.Path.{_≡_, refl, sym, ap, ap₂, _∙_}
 use mathlib.Core.Bool.{Bool, true, false, _&&_, _||_, false≢true}
-use mathlib.Core.List.{List, [], _∷_, _++_, List·Memᴰ, List·Memᴰ·head, List·Memᴰ·tail, List·Memᴰ·not-nil, List·Memᴰ·append-cases, Memᴰ·append-left, Memᴰ·append-right}
+use mathlib.Core.List.{List, [], _∷_, _++_, append-assoc, List·Memᴰ, List·Memᴰ·head, List·Memᴰ·tail, List·Memᴰ·not-nil, List·Memᴰ·append-cases, Memᴰ·append-left, Memᴰ·append-right}
 use mathlib.Core.Option.{Option, none, some}
 use mathlib.Core.Logic.{⊎-elim}
 use Prim.Native.Nat.{ℕ, zero, suc, _+_, _*_, _≤_, _<_}
@@ -207,3 +207,19 @@ pub any-same : (p q : ℕ → Bool) (n : ℕ) → ((i : ℕ) → i < n → p i �
 unfolding anyBelow
 any-same p q zero h = refl
 any-same p q (suc n) h = ap₂ (λ (x y : Bool). x || y) (any-same p q n (λ i k. h i (le-step k))) (h n (le-refl (suc n)))
+
+-- ---- Numbers in front of what may be numbers
+
+unfoldable pub ahead : List ℕ → Option (List ℕ) → Option (List ℕ)
+ahead ns none = none
+ahead ns (some ms) = some (ns ++ ms)
+
+pub ahead-nil : (o : Option (List ℕ)) → ahead [] o ≡ o
+unfolding ahead
+ahead-nil none = refl
+ahead-nil (some ms) = refl
+
+pub ahead-ahead : (ns ms : List ℕ) (o : Option (List ℕ)) → ahead ns (ahead ms o) ≡ ahead (ns ++ ms) o
+unfolding ahead
+ahead-ahead ns ms none = refl
+ahead-ahead ns ms (some ks) = ap some (sym (append-assoc ns ms ks))
