@@ -43,9 +43,6 @@ use replies::Reply;
 use replies::refusal_number;
 ghost use Prim.Native.Nat.{_≤_};
 
-// An allowance that cuts no call off.
-pub const ALL_STORES: u32 = 4294967295;
-
 // The column of a call.
 fn column_of(call: Call) -> usize {
     match call {

@@ -55,6 +55,9 @@ pub const SHORT_LIST: u32 = 10;
 
 pub const ABSENT: u32 = 255;
 
+// An allowance that cuts no call off.
+pub const ALL_STORES: u32 = 4294967295;
+
 // A call: a format with D and S, a get with its key, a put with key and value, a remove with its key, a
 // mend, a list with the words of its list array. Those that store have their allowance last.
 pub enum Call {

@@ -3,8 +3,6 @@
 use index_compare::arrays::Arrays;
 use index_compare::arrays::INDEX;
 use index_compare::arrays::TABLE;
-use index_compare::runs::ENTRY_WORDS;
-use index_compare::runs::KEYS;
 use index_compare::tally::LOOKUPS;
 use index_compare::tally::count;
 use index_compare::tally::expect;
@@ -12,6 +10,8 @@ use index_model::Call;
 use model_array::words::Cells;
 use model_array::words::set_word;
 use model_array::words::word_at;
+use random_calls::runs::ENTRY_WORDS;
+use random_calls::runs::KEYS;
 use replies::Reply;
 
 // Tells the table of a done call on the key of an entry: a put sets its value, whether it had one or not,

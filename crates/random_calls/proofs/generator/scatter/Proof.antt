@@ -1,7 +1,7 @@
 use borrow.Author.Needs.{needs}
 use Prim.Native.Nat.{_-_, _≤_}
-use Rattle.index_compare.proofs.generator.scatter.Statement.{statement}
-use Rattle.index_compare.proofs.generator.scatter.Tie as tie
+use Rattle.random_calls.proofs.generator.scatter.Statement.{statement}
+use Rattle.random_calls.proofs.generator.scatter.Tie as tie
 
 pub scatter-spec : {M : Type 1} → statement M
 scatter-spec =

@@ -1,7 +1,7 @@
 use borrow.Author.Needs.{needs}
 use Prim.Native.Nat.{_-_, _≤_}
-use Rattle.index_compare.proofs.runs.size_of.Statement.{statement}
-use Rattle.index_compare.proofs.runs.size_of.Tie as tie
+use Rattle.random_calls.proofs.runs.size_of.Statement.{statement}
+use Rattle.random_calls.proofs.runs.size_of.Tie as tie
 
 pub size-of-spec : {M : Type 1} → statement M
 size-of-spec =

@@ -1,7 +1,7 @@
 use borrow.Author.Needs.{needs}
 use Prim.Native.Nat.{_-_, _≤_}
-use Rattle.index_compare.proofs.runs.draw_keys.Statement.{statement}
-use Rattle.index_compare.proofs.runs.draw_keys.Tie as tie
+use Rattle.random_calls.proofs.runs.draw_keys.Statement.{statement}
+use Rattle.random_calls.proofs.runs.draw_keys.Tie as tie
 
 pub draw-keys-spec : {M : Type 1} → statement M
 draw-keys-spec =

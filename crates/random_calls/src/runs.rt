@@ -1,8 +1,8 @@
 // Random runs: a run's keys, which stand in the plain table, and its calls.
-use crate::compare::ALL_STORES;
 use crate::generator::from_seed;
 use crate::generator::next;
 use crate::generator::own_key;
+use index_model::ALL_STORES;
 use index_model::Call;
 use model_array::words::Cells;
 use model_array::words::WORDS;
