@@ -25,8 +25,8 @@ use Rattle.layout.specs.declared.place.Place.{Place}
 use Rattle.layout.specs.declared.place.Placed.{Placed}
 use Rattle.layout.specs.declared.place.Placed.the-variants.{At, Refused}
 use Rattle.layout.specs.Blocks.{shared}
-use Rattle.layout.specs.Places.{KeyPlace, PlacedBy}
-use Rattle.layout.proofs.Places.{place-bounds, blockOf, place-shared}
+use Rattle.layout.specs.Places.{KeyPlace, blockOf, PlacedBy}
+use Rattle.layout.proofs.Places.{place-bounds, place-shared}
 
 module _ (a : List ℕ) (key : ℕ) (later : Option Refusal) where
   key-tests-no-store : validHeader a ≡ false → keyTests a key later ≡ some NoStore

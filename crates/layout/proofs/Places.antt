@@ -19,11 +19,10 @@ use Rattle.layout.specs.declared.header.Header.{Header}
 use Rattle.layout.specs.declared.entry.Entry.{Entry}
 use Rattle.layout.specs.declared.entry.Entry.the-variants.{At, Broken}
 use Rattle.layout.specs.declared.place.Place.{Place}
-use Rattle.layout.specs.declared.key.Block.{Block}
 use Rattle.layout.specs.Blocks.{shared}
 use Rattle.layout.specs.Headers.{Describes}
 use Rattle.layout.specs.Entries.{entrySaid, entryOf}
-use Rattle.layout.specs.Places.{KeyPlace}
+use Rattle.layout.specs.Places.{KeyPlace, blockOf}
 use Rattle.layout.proofs.Shapes.{shape, bounds}
 use Rattle.layout.proofs.Answers.{Opened, entry-at, entry-broken}
 
@@ -116,10 +115,6 @@ module _ {h : Header} {a : List ℕ} (d : Describes h a) (key i bits : ℕ) (ope
     placed-broken q = rw (entry-broken (depth a) (segments a) (keyEntry a key) r (rw key-entry at said) q)
 
 -- ---- What it says of its key's block
-
--- The block of the key, as the code's liveness takes it.
-abbrev pub blockOf : Place → Block
-blockOf p = record { «local_depth» = p .«local_depth»; bits = p .bits }
 
 -- The bits of the key at any depth, and those that the keys of its block share.
 pub place-index : {p : Place} {a : List ℕ} → KeyPlace p a → (g : ℕ) → firstBits (p .bits) g ≡ index (p .key) g

@@ -13,6 +13,7 @@ use Rattle.rules.specs.Get.{keyEntry, keySegment}
 use Rattle.layout.specs.declared.place.Place.{Place}
 use Rattle.layout.specs.declared.place.Placed.{Placed}
 use Rattle.layout.specs.declared.place.Placed.the-variants.{At, Refused}
+use Rattle.layout.specs.declared.key.Block.{Block}
 use Rattle.layout.specs.Headers.{Describes}
 
 -- The place p is its key's in the array a: the key's entry is in range, and names this segment with this local depth. Whether
@@ -24,6 +25,10 @@ pub record KeyPlace (p : Place) (a : List ℕ) : Type 0 where
   pub segment-is : segmentOf (keyEntry a (p .key)) ≡ p .segment
   pub depth-is : localDepth (keyEntry a (p .key)) ≡ p .«local_depth»
   pub base-is : keySegment a (p .key) ≡ p .base
+
+-- The block of the key, as the tests of liveness take it.
+abbrev pub blockOf : Place → Block
+blockOf p = record { «local_depth» = p .«local_depth»; bits = p .bits }
 
 -- The tests t have passed, and this is the key's place; or they give this refusal.
 abbrev pub PlacedBy : Placed → List ℕ → (key : ℕ) → Option Refusal → Type 0

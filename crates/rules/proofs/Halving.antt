@@ -105,9 +105,9 @@ module _ (a : List ℕ) (key n : ℕ) (v : ValidHeader a) (f : n < segments a) w
   copies-elsewhere i h =
       apply-elsewhere (Inside (maxDepth a) (segments a)) (keyCopies a key n) a i copies-inside (λ w. let b = w .behind in omega arith)
 
-  -- Each entry stands in the array.
-  pub between-room : (i : ℕ) → i < 2 ^ depth a → entryAddress (depth a) i < length (apply (keyCopies a key n) a)
-  between-room i h =
+  -- They leave an array in which each entry stands.
+  pub copies-room : (i : ℕ) → i < 2 ^ depth a → entryAddress (depth a) i < length (apply (keyCopies a key n) a)
+  copies-room i h =
       rw (length-apply (keyCopies a key n) a)
       (omega (arith, entry-inside (maxDepth a) (depth a) i (v .present) h, directories-below (maxDepth a) (segments a), v .room))
 
@@ -137,17 +137,17 @@ module _ (a : List ℕ) (key n : ℕ) (v : ValidHeader a) (f : n < segments a) w
         (every-append (λ s. s .at < wordsFor (maxDepth a) (segments a)) (keyCopies a key n) (keyUpdates a key n) copies-in-range updates-in-range)
 
   module _ (l : localDepth (keyEntry a key) < depth a) where
-    -- The array between the two.
-    abbrev between : List ℕ
-    between = apply (keyCopies a key n) a
+    -- The array that the copies leave.
+    abbrev after-copies : List ℕ
+    after-copies = apply (keyCopies a key n) a
 
-    parted : apply (halving a key n) a ≡ apply (keyUpdates a key n) between
+    parted : apply (halving a key n) a ≡ apply (keyUpdates a key n) after-copies
     parted = rw (halving-parts a key n) (apply-append (keyCopies a key n) (keyUpdates a key n) a)
 
     halved-word-0 : word (apply (halving a key n) a) 0 ≡ word a 0
     halved-word-0 =
         rw parted
-        (apply-elsewhere (BlockEntry (depth a) (localDepth (keyEntry a key)) (keyStart a key)) (keyUpdates a key n) between 0 (updates-block a key n)
+        (apply-elsewhere (BlockEntry (depth a) (localDepth (keyEntry a key)) (keyStart a key)) (keyUpdates a key n) after-copies 0 (updates-block a key n)
         (λ w. let e : 0 ≡ entryAddress (depth a) (w .number) = w .address in omega (arith, entry-positive (depth a) (w .number)))
         ∙ copies-elsewhere 0 (pow-pos (suc (maxDepth a))))
 
@@ -161,9 +161,9 @@ module _ (a : List ℕ) (key n : ℕ) (v : ValidHeader a) (f : n < segments a) w
         let i : ℕ = index key (depth a) in
         let from : keyStart a key ≤ i = blockStart-le (depth a) L i in
         let to : i < keyStart a key + width (depth a) L = in-block (depth a) L i in
-        rw (parted, ← updating-whole (depth a) L (keyStart a key) (segmentOf (keyEntry a key)) n between)
-        (updating-made (depth a) L (keyStart a key) (segmentOf (keyEntry a key)) n between (width (depth a) L) i from to l
-        (between-room i (index-lt key (depth a))) (omega arith))
+        rw (parted, ← updating-whole (depth a) L (keyStart a key) (segmentOf (keyEntry a key)) n after-copies)
+        (updating-made (depth a) L (keyStart a key) (segmentOf (keyEntry a key)) n after-copies (width (depth a) L) i from to l
+        (copies-room i (index-lt key (depth a))) (omega arith))
 
     halved-key-entry : keyEntry (apply (halving a key n) a) key
         ≡ entry

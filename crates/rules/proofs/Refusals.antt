@@ -36,7 +36,7 @@ use Rattle.rules.proofs.Keys.{index-lt}
 use Rattle.rules.proofs.Blocks.{Blocks, consistent-blocks, blocks-valid, blocks-agree, doubled-blocks, halvedDirectory, place, halved-blocks}
 use Rattle.rules.proofs.Doubling.{Doubled, after-doubling, entry-of-key}
 use Rattle.rules.proofs.Updating.{all-made}
-use Rattle.rules.proofs.Halving.{keyCopies, keyUpdates, halving-parts, copies-elsewhere, between-room, after-halving}
+use Rattle.rules.proofs.Halving.{keyCopies, keyUpdates, halving-parts, copies-elsewhere, copies-room, after-halving}
 use Rattle.rules.proofs.Split.{Splittable, Ready, ready, AfterSplit, after-split}
 use Rattle.rules.proofs.Range.{dueBy}
 use Rattle.rules.proofs.Put.{Passed, tests-number, put-refused, Cases, put-induction}
@@ -79,7 +79,7 @@ module _ (c : List ℕ) (key n : ℕ) (v : ValidHeader c) (new : n < segments c)
   halved-entries : (j : ℕ) → j < 2 ^ g → entryAt b g j ≡ halvedDirectory g f i n j
   halved-entries j h =
       let made =
-      all-made g f i n own-room (apply (keyCopies c key n) c) j (between-room c key n v new j h)
+      all-made g f i n own-room (apply (keyCopies c key n) c) j (copies-room c key n v new j h)
       (copies-elsewhere c key n v new (entryAddress g j) (entry-inside (maxDepth c) g j (v .present) h))
       (place dir fits i (index-lt key g) own-room n new j) in
       rw (halving-parts c key n, apply-append (keyCopies c key n) (keyUpdates c key n) c) (rw (← own) at made)

@@ -19,7 +19,7 @@ use Rattle.rules.specs.Layout.{depth, maxDepth, header, segmentAddress, localDe
 use Rattle.rules.specs.Keys.{firstBits}
 use Rattle.rules.specs.Slots.{freeSegment}
 use Rattle.rules.specs.Get.{keyEntry}
-use Rattle.rules.specs.Split.{doubling, copying, updating, halving, doublingFor, splitting}
+use Rattle.rules.specs.Split.{doubling, copying, halving, doublingFor, splitting}
 use Rattle.rules.proofs.Words.{valid-header}
 use Rattle.rules.proofs.Keys.{index-shift, first-lt, block-end}
 use Rattle.rules.proofs.Doubling.{Doubled, after-doubling}
@@ -27,22 +27,23 @@ use Rattle.rules.proofs.Halving.{halving-parts}
 use Rattle.rules.proofs.Put.{free-below}
 use Rattle.rules.proofs.Bound.{length-doubling, length-copying}
 use Rattle.layout.specs.declared.place.Place.{Place}
-use Rattle.layout.specs.Places.{KeyPlace}
+use Rattle.layout.specs.Blocks.{shared}
+use Rattle.layout.specs.Places.{KeyPlace, blockOf}
 use Rattle.layout.proofs.Shapes.{bounds}
 use Rattle.layout.proofs.Places.{segment-fits, place-bounds, place-index}
 use Rattle.directory.specs.declared.free.Free.{Free}
 use Rattle.directory.specs.declared.free.Free.the-variants.{Segment, Nothing}
 use Rattle.directory.specs.Frees.{freeOf}
-use Rattle.directory.specs.Updates.{Updatable}
+use Rattle.directory.specs.Updates.{Updatable, updatingOf}
 use Rattle.segment.specs.Slot.{segmentIn}
 use Rattle.structure.specs.declared.split.Halving.{Halving}
 use Rattle.structure.specs.declared.split.SplitAnswer.the-variants.{Due, NoSegment}
-use Rattle.structure.specs.Splits.{CanSplit, SplitBy, Halvable, sharedBits, startAt, copyingAt, halvingAt}
+use Rattle.structure.specs.Splits.{CanSplit, SplitBy, Halvable, copyingAt, halvesAt, startAt, halvingAt}
 use Rattle.structure.proofs.Copies.{copying-same, copying-read, copied}
 
 -- ---- Steps 3 and 4
 
--- They at the place p, in a directory of depth g, with the new segment n.
+-- Steps 3 and 4 at the place p, in a directory of depth g, with the new segment n.
 abbrev pub halvingFor : Place → (g n : ℕ) → Halving
 halvingFor p g n = record { place = p; depth = g; «new_segment» = n }
 
@@ -62,7 +63,7 @@ halving-at {p} {n} {a} can b g dg dD same words h =
 -- The code of steps 3 and 4: `base` is the address of the new segment, `part` its words behind the copy step.
 module _ {h : Halving} {a : List ℕ} (ok : Halvable h a) (base : ℕ) (old : List ℕ)
     (base-is : base ≡ segmentAddress (h .place .header .«max_depth») (h .«new_segment»)) (allowed due total : ℕ) (part : List ℕ)
-    (copy : Executed (copying old 0 0 (h .place .«local_depth») (sharedBits h)) allowed due (take (base + 128 - base) (drop base a)) total part) where
+    (copy : Executed (copying old 0 0 (h .place .«local_depth») (shared (blockOf (h .place)))) allowed due (take (base + 128 - base) (drop base a)) total part) where
   -- The array behind the copy step.
   abbrev after-copy : List ℕ
   after-copy = take base a ++ (part ++ drop (base + 128 - base) (drop base a))
@@ -70,17 +71,16 @@ module _ {h : Halving} {a : List ℕ} (ok : Halvable h a) (base : ℕ) (old : Li
   copy-made : Executed (copyingAt old h) allowed due a total after-copy
   copy-made =
       rw (← base-is)
-      (copied a old base (h .place .«local_depth») (sharedBits h) allowed due total part (rw base-is (ok .new-room)) copy)
+      (copied a old base (h .place .«local_depth») (shared (blockOf (h .place))) allowed due total part (rw base-is (ok .new-room)) copy)
 
   copy-due : total ≤ due + 128
   copy-due =
       let c = copy-made .count in
-      omega (arith, length-copying old 0 (segmentAddress (h .place .header .«max_depth») (h .«new_segment»)) (h .place .«local_depth») (sharedBits h))
+      omega (arith, length-copying old 0 (segmentAddress (h .place .header .«max_depth») (h .«new_segment»)) (h .place .«local_depth») (shared (blockOf (h .place))))
 
   -- The entries of the key's block, which begins at `start`, can be updated.
   pub update-ready : (start : ℕ) → start ≡ startAt h → due + 128 ≤ dueLimit
-      → Updatable (record { depth = h .depth; «local_depth» = h .place .«local_depth»; start = start; segment = h .place .segment; «new_segment» = h .«new_segment» }) after-copy
-      × (total ≤ dueLimit)
+      → Updatable (halvesAt h start) after-copy × (total ≤ dueLimit)
   unfolding segmentAddress
   update-ready start e few =
       let D = h .place .header .«max_depth» in
@@ -100,11 +100,11 @@ module _ {h : Halving} {a : List ℕ} (ok : Halvable h a) (base : ℕ) (old : Li
       )
 
   pub halve-done : (start due′ : ℕ) (b : List ℕ) → start ≡ startAt h
-      → Executed (updating (h .depth) (h .place .«local_depth») start (h .place .segment) (h .«new_segment»)) allowed total after-copy due′ b
+      → Executed (updatingOf (halvesAt h start)) allowed total after-copy due′ b
       → Executed (halvingAt old h) allowed due a due′ b
   halve-done start due′ b e update =
       rw (← e)
-      (executed-append (copyingAt old h) (updating (h .depth) (h .place .«local_depth») start (h .place .segment) (h .«new_segment»)) allowed due a total after-copy due′ b copy-made update)
+      (executed-append (copyingAt old h) (updatingOf (halvesAt h start)) allowed due a total after-copy due′ b copy-made update)
 
 -- ---- Steps 2 to 4
 
@@ -128,8 +128,8 @@ module _ {p : Place} {n : ℕ} {a : List ℕ} (can : CanSplit p n a) where
         let l = can .local-room in
         rw (d .depth-read, d .max-depth-read) (omega arith)
 
-    pub doubling-due : (allowed due : ℕ) (b : List ℕ) → Executed (doubling a) allowed 0 a due b → due ≤ 8193
-    doubling-due allowed due b q =
+    pub doubling-due : (allowed before due : ℕ) (b : List ℕ) → Executed (doubling a) allowed before a due b → due ≤ before + 8193
+    doubling-due allowed before due b q =
         let g = bounds (can .place .header-read) .entries in
         let l = rw (length-doubling a, can .place .header-read .depth-read) at (q .count) in
         omega (arith, l)

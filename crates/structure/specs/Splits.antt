@@ -10,9 +10,12 @@ use Rattle.stores.specs.Executed.{Executed}
 use Rattle.rules.specs.Layout.{segmentAddress}
 use Rattle.rules.specs.Keys.{firstBits, blockStart}
 use Rattle.rules.specs.Slots.{freeSegment}
-use Rattle.rules.specs.Split.{copying, updating, splitting}
+use Rattle.rules.specs.Split.{copying, splitting}
 use Rattle.layout.specs.declared.place.Place.{Place}
-use Rattle.layout.specs.Places.{KeyPlace}
+use Rattle.layout.specs.Blocks.{shared}
+use Rattle.layout.specs.Places.{KeyPlace, blockOf}
+use Rattle.directory.specs.declared.update.Halves.{Halves}
+use Rattle.directory.specs.Updates.{updatingOf}
 use Rattle.structure.specs.declared.split.SplitAnswer.{SplitAnswer}
 use Rattle.structure.specs.declared.split.SplitAnswer.the-variants.{Due, TooDeep, NoSegment}
 use Rattle.structure.specs.declared.split.Halving.{Halving}
@@ -40,7 +43,8 @@ SplitBy NoSegment p allowed a b = (p .«local_depth» < p .header .«max_depth»
 
 -- ---- Steps 3 and 4
 
--- They can be made in the array a: the key's segment is less deep than the directory, and the directory and the new segment have room.
+-- Steps 3 and 4 can be made in the array a: the key's segment is less deep than the directory, and the directory and the new segment have
+-- room.
 pub record Halvable (h : Halving) (a : List ℕ) : Type 0 where
   pub not-full : h .place .«local_depth» < h .depth
   pub depth-low : h .depth ≤ h .place .header .«max_depth»
@@ -49,23 +53,25 @@ pub record Halvable (h : Halving) (a : List ℕ) : Type 0 where
   pub new-below : h .«new_segment» < 4096
   pub new-room : segmentAddress (h .place .header .«max_depth») (h .«new_segment») + 128 ≤ length a
 
--- The bits that the keys of the block share.
-abbrev pub sharedBits : Halving → ℕ
-sharedBits h = firstBits (h .place .bits) (h .place .«local_depth»)
-
 -- The copy step, from the old segment's words.
 abbrev pub copyingAt : (old : List ℕ) → Halving → List Store
 copyingAt old h =
-    copying old 0 (segmentAddress (h .place .header .«max_depth») (h .«new_segment»)) (h .place .«local_depth») (sharedBits h)
+    copying old 0 (segmentAddress (h .place .header .«max_depth») (h .«new_segment»)) (h .place .«local_depth») (shared (blockOf (h .place)))
 
--- The first index of the block.
+-- The block as the entry update takes it, by its first index; and that index.
+abbrev pub halvesAt : Halving → (start : ℕ) → Halves
+halvesAt h start =
+    record {
+      depth = h .depth;
+      «local_depth» = h .place .«local_depth»;
+      start = start;
+      segment = h .place .segment;
+      «new_segment» = h .«new_segment»;
+    }
+
 abbrev pub startAt : Halving → ℕ
 startAt h = blockStart (h .depth) (h .place .«local_depth») (firstBits (h .place .bits) (h .depth))
 
--- The entry update.
-abbrev pub updatingAt : Halving → List Store
-updatingAt h = updating (h .depth) (h .place .«local_depth») (startAt h) (h .place .segment) (h .«new_segment»)
-
--- Both.
+-- The copy step, then the entry update.
 abbrev pub halvingAt : (old : List ℕ) → Halving → List Store
-halvingAt old h = copyingAt old h ++ updatingAt h
+halvingAt old h = copyingAt old h ++ updatingOf (halvesAt h (startAt h))

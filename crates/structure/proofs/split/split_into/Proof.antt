@@ -23,7 +23,7 @@ halve-requires c κs =
     let p = c .before .before .before .before .before .before .before .before .before .before .before .pre in
     let d = c .before .before .before .double .ensures in
     let deep = c .before .before .before .before .before .if1 .taken in
-    (halvable p _ _ (omega arith) (let r = p .local-room in omega arith) (executed-length d), omega (arith, doubling-due p deep _ _ _ d))
+    (halvable p _ _ (omega arith) (let r = p .local-room in omega arith) (executed-length d), omega (arith, doubling-due p deep _ _ _ _ d))
 
 same-length : tie.Need-same-length
 same-length c = search needs
