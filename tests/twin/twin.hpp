@@ -80,7 +80,7 @@ class Index {
                 store(at + 1 - w, value);
                 return end(done);
             }
-            if (word *at = usable(base, key, l, i >> (g - l))) {
+            if (word *at = slot_for_new(base, key, l, i >> (g - l))) {
                 store_record(at - w, key, value);
                 return end(done);
             }
@@ -199,13 +199,17 @@ class Index {
         return nullptr;
     }
 
-    static word *usable(word *base, word key, unsigned l, std::size_t bits) {
+    // The first empty slot of the window; where there is none, the first stale one.
+    static word *slot_for_new(word *base, word key, unsigned l, std::size_t bits) {
+        word *stale = nullptr;
         for (unsigned b = 0; b < 4; b++) {
             word *bucket = base + (key + b) % 16 * 8;
-            for (unsigned j = 0; j < 8; j += 2)
-                if (bucket[j] == 0 || route(bucket[j], l) != bits) return bucket + j;
+            for (unsigned j = 0; j < 8; j += 2) {
+                if (bucket[j] == 0) return bucket + j;
+                if (stale == nullptr && route(bucket[j], l) != bits) stale = bucket + j;
+            }
         }
-        return nullptr;
+        return stale;
     }
 
     std::uint32_t check(word key) const {

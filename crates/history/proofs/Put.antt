@@ -1,29 +1,28 @@
 -- A put of a key but 0 keeps the map under every allowance, and whole it leaves what the map is told of it.
 -- Assumes nothing.
 use mathlib.Core.Path.{_≡_, refl, sym, ap, _∙_}
-use mathlib.Core.Bool.{false}
-use mathlib.Core.List.{List, [], _∷_, List·Memᴰ}
-use mathlib.Core.Option.{Option, none, some}
+use mathlib.Core.List.{List, [], _∷_}
+use mathlib.Core.Option.{Option, some}
 use Prim.Native.Nat.{ℕ, zero, suc, _≤_, _<_}
 use native.Mathlib.Nat.{not-suc-le-zero, le-of-suc-le-suc}
 use native.Mathlib.Omega.{arith}
-use borrow.Author.Tests.{not-true}
 use lib.ListN.{length, set}
 use Rattle.stores.specs.Store.{store, apply, exec}
 use Rattle.stores.specs.Plan.{Plan}
-use Rattle.stores.proofs.Lists.{first-some, some-none}
+use Rattle.stores.proofs.Lists.{some-none}
 use Rattle.stores.proofs.Stores.{exec-not-made, word-set-same}
 use Rattle.replies.specs.declared.Refusal.the-variants.{TooDeep, NoSegment}
-use Rattle.rules.specs.Layout.{wordsFor, segmentOf, localDepth, segmentAddress, keyAddress, valueAddress, keyAt}
-use Rattle.rules.specs.Keys.{index, live, window}
-use Rattle.rules.specs.Slots.{hit, usable, firstUsable}
+use Rattle.rules.specs.Layout.{wordsFor, segmentOf, localDepth, segmentAddress, keyAddress, valueAddress}
+use Rattle.rules.specs.Keys.{index}
+use Rattle.rules.specs.Slots.{hit}
 use Rattle.replies.specs.Replies.{Said}
 use Rattle.rules.specs.Get.{keyEntry, keySegment}
 use Rattle.rules.specs.Split.{splitting}
 use Rattle.rules.specs.Put.{put}
 use Rattle.rules.proofs.Words.{value-inside}
 use Rattle.rules.proofs.Keys.{index-lt, window-lt}
-use Rattle.rules.proofs.Put.{choice-found, choice-into, keyHit, keyUsable, renewed, inserted, Cases, put-induction}
+use Rattle.rules.proofs.Slots.{IntoSlot}
+use Rattle.rules.proofs.Put.{choice-found, choice-into, keyHit, KeyInto, renewed, inserted, Cases, put-induction}
 use Rattle.runs.specs.Map.{Map, puts, fed, updated}
 use Rattle.history.proofs.Holds.{key-after-value, hit-after-value}
 use Rattle.history.proofs.Invariant.{Inv, Recovered, LiveAt, baseAt, live-above, live-own, block-changed, block-recovered, BlockChanged, shape-depth}
@@ -58,16 +57,12 @@ module _ (key value : ℕ) where
     pub own-hit : (r : Option ℕ) → keyHit a key ≡ r → hit a (baseAt d f here) key ≡ r
     own-hit r e = rw own-segment at e
 
-    -- The first usable slot is in the window, and not live.
-    usable-slot : (j : ℕ) → keyUsable a key ≡ some j
-        → List·Memᴰ j (window key) × (live (localDepth (f here)) (bitsAt g f here) (keyAt a (baseAt d f here) j) ≡ false)
-    unfolding firstUsable usable
-    usable-slot j e =
-        let first = first-some (usable a (keySegment a key) (localDepth (keyEntry a key)) (keyBits a key)) (window key) j e in
-        let stale : live (localDepth (keyEntry a key)) (keyBits a key) (keyAt a (keySegment a key) j) ≡ false =
-        not-true (live (localDepth (keyEntry a key)) (keyBits a key) (keyAt a (keySegment a key) j)) (first .1)
-        in
-        (first .0, rw (own-segment, own-bits, own-entry) at stale)
+    -- The slot for a new record of the key, by the directory f.
+    abbrev OwnInto : (j : ℕ) → Type 0
+    OwnInto j = IntoSlot a (baseAt d f here) (localDepth (f here)) (bitsAt g f here) key j
+
+    own-into : (j : ℕ) → KeyInto a key j → OwnInto j
+    own-into j s = rw (own-segment, own-bits, own-entry) at s
 
     -- ---- The choices of a slot
 
@@ -96,9 +91,7 @@ module _ (key value : ℕ) where
         }
 
     -- A slot that is not live takes the value, which is not seen, and then the key.
-    module _ (nonzero : key ≡ 0 → ⊥) (j : ℕ) (window-slot : List·Memᴰ j (window key))
-        (absent-so-far : hit a (baseAt d f here) key ≡ none)
-        (stale : live (localDepth (f here)) (bitsAt g f here) (keyAt a (baseAt d f here) j) ≡ false) where
+    module _ (nonzero : key ≡ 0 → ⊥) (j : ℕ) (slot : OwnInto j) where
       abbrev base : ℕ
       base = baseAt d f here
 
@@ -106,21 +99,21 @@ module _ (key value : ℕ) where
       valued = set a (valueAddress base j) value
 
       with-value : BlockChanged m m g d S f here a valued
-      with-value = value-unseen inv here (index-lt key g) j value (window-lt key j window-slot) stale
+      with-value = value-unseen inv here (index-lt key g) j value (window-lt key j (slot .in-window)) (slot .not-live)
 
       in-array : valueAddress base j < length a
       in-array =
           let inside : valueAddress base j < wordsFor d S =
-          value-inside d S (segmentOf (f here)) j (inv .directory .entries .below here (index-lt key g)) (window-lt key j window-slot) .below
+          value-inside d S (segmentOf (f here)) j (inv .directory .entries .below here (index-lt key g)) (window-lt key j (slot .in-window)) .below
           in
           let fits : wordsFor d S ≤ length a = inv .shape .room in
           omega arith
 
       with-key : BlockChanged m (updated m key (some value)) g d S f here valued (set valued (keyAddress base j) key)
       with-key =
-          new-key (block-changed here (index-lt key g) valued inv same with-value) here (index-lt key g) key j value (own-live nonzero) window-slot
-          (hit-after-value a base j value key ∙ absent-so-far)
-          (rw (key-after-value a base j value j) stale)
+          new-key (block-changed here (index-lt key g) valued inv same with-value) here (index-lt key g) key j value (own-live nonzero) (slot .in-window)
+          (hit-after-value a base j value key ∙ slot .missing)
+          (rw (key-after-value a base j value j) (slot .not-live))
           (word-set-same a (valueAddress base j) value in-array)
 
       inserted-whole : Whole (updated m key (some value)) d S (set valued (keyAddress base j) key)
@@ -140,15 +133,13 @@ module _ (key value : ℕ) where
       inserted-prefixes (suc zero) h = whole-kept (changed valued with-value)
       inserted-prefixes (suc (suc k)) h = absurd (not-suc-le-zero (le-of-suc-le-suc (le-of-suc-le-suc h)))
 
-    put-into : (key ≡ 0 → ⊥) → (j : ℕ) → keyHit a key ≡ none → keyUsable a key ≡ some j → PlanKept (puts key value) m d S (inserted a key value j) a
+    put-into : (key ≡ 0 → ⊥) → (j : ℕ) → KeyInto a key j → PlanKept (puts key value) m d S (inserted a key value j) a
     unfolding fed apply
-    put-into nonzero j e u =
-        let slot = usable-slot j u in
-        let none-there = own-hit none e in
+    put-into nonzero j s =
         rw own-segment
         (record {
-          prefixes = inserted-prefixes nonzero j (slot .0) none-there (slot .1);
-          whole = inserted-whole nonzero j (slot .0) none-there (slot .1);
+          prefixes = inserted-prefixes nonzero j (own-into j s);
+          whole = inserted-whole nonzero j (own-into j s);
           not-cut = refl;
           no-damage = refl;
         })
@@ -165,9 +156,7 @@ module _ (key value : ℕ) where
       record {
         when-refused = λ a r e m g d S f inv same. absurd (some-none r (sym e ∙ inv-put-tests inv key nonzero same));
         when-found = λ a j ok c m g d S f inv same. put-found inv same nonzero j (choice-found a key j c);
-        when-into = λ a j ok c m g d S f inv same.
-            let at = choice-into a key j c in
-            put-into inv same nonzero j (at .0) (at .1);
+        when-into = λ a j ok c m g d S f inv same. put-into inv same nonzero j (choice-into a key j c);
         when-deep = λ a ok c deep m g d S f inv same. refusal-kept (puts key value) TooDeep refl refl refl (unchanged inv same);
         when-none = λ a ok c low free m g d S f inv same. refusal-kept (puts key value) NoSegment refl refl refl (unchanged inv same);
         when-split = λ a n ok c free s again m g d S f inv same.

@@ -28,7 +28,8 @@ use Rattle.rules.specs.Split.{splitting}
 use Rattle.rules.specs.Put.{putTests, keyChoice, unused, put}
 use Rattle.rules.specs.Step.{effect, step}
 use Rattle.rules.proofs.Split.{Splittable, unused-falls}
-use Rattle.rules.proofs.Range.{hit-slot, usable-slot}
+use Rattle.rules.proofs.Keys.{window-lt}
+use Rattle.rules.proofs.Range.{hit-slot}
 use Rattle.rules.proofs.Put.{put-refused, put-found, put-into, put-too-deep, put-no-segment, put-again, put-splittable, choice-found, choice-into}
 use Rattle.layout.specs.declared.place.Place.{Place}
 use Rattle.structure.specs.declared.split.SplitAnswer.{SplitAnswer}
@@ -110,7 +111,7 @@ module _ {p : Place} {a : List ℕ} {key : ℕ} (k : Stands p a key (putTests a 
   found-slot {j} q = hit-slot a (keySegment a key) key j (choice-found a key j (choice-found-read q))
 
   pub into-slot : {j : ℕ} → x ≡ Into j → j < 64
-  into-slot {j} q = usable-slot a (keySegment a key) _ _ key j (choice-into a key j (choice-into-read q) .1)
+  into-slot {j} q = window-lt key j (choice-into a key j (choice-into-read q) .in-window)
 
   base-is : keySegment a key ≡ p .base
   base-is = rw (k .1) at (k .2 .base-is)

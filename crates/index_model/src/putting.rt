@@ -39,7 +39,7 @@ fn attempt_split(draft: &mut Cells, length: usize, block: Block, key: u64) -> u3
     GOING_ON
 }
 
-// The record of a key that is not held, in the first usable slot; or a split, if there is none.
+// The record of a key that is not held, in the slot that takes a new key; or a split, if there is none.
 fn attempt_record(draft: &mut Cells, length: usize, block: Block, key: u64, value: u64) -> u32 {
     let room = find_room(draft, block, key);
     if room == NO_SLOT {

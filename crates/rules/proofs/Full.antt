@@ -5,7 +5,7 @@ use mathlib.Core.Bool.{true}
 use mathlib.Core.List.{List, [], List·Memᴰ}
 use Prim.Native.Nat.{ℕ, _<_}
 use native.Mathlib.Omega.{arith}
-use borrow.Author.Tests.{eqb-false, not-false}
+use borrow.Author.Tests.{eqb-false}
 use lib.Dec.{eqb}
 use Rattle.stores.specs.Store.{apply}
 use Rattle.stores.specs.Plan.{Plan}
@@ -13,7 +13,7 @@ use Rattle.stores.proofs.Lists.{first-none}
 use Rattle.stores.proofs.Stores.{apply-append}
 use Rattle.rules.specs.Layout.{maxDepth, segments, localDepth, keyAt}
 use Rattle.rules.specs.Keys.{live, window}
-use Rattle.rules.specs.Slots.{full, hit, usable, firstUsable, named}
+use Rattle.rules.specs.Slots.{full, hit, named}
 use Rattle.replies.specs.Replies.{Said, done, refused, numberOf}
 use Rattle.rules.specs.Get.{keyEntry, keySegment}
 use Rattle.rules.specs.Split.{splitting}
@@ -28,16 +28,14 @@ pub record FullWindow (a : List ℕ) (key : ℕ) : Type 0 where
       → live (localDepth (keyEntry a key)) (keyBits a key) (keyAt a (keySegment a key) j) ≡ true
 
 pub full-window : (a : List ℕ) (key : ℕ) → keyChoice a key ≡ full → FullWindow a key
-unfolding hit firstUsable usable
+unfolding hit
 full-window a key e =
     let c = choice-full a key e in
     record {
       others = λ j m.
           eqb-false (keyAt a (keySegment a key) j) key
-          (first-none (λ i. eqb (keyAt a (keySegment a key) i) key) (window key) (c .0) j m);
-      all-live = λ j m.
-          not-false (live (localDepth (keyEntry a key)) (keyBits a key) (keyAt a (keySegment a key) j))
-          (first-none (usable a (keySegment a key) (localDepth (keyEntry a key)) (keyBits a key)) (window key) (c .1) j m);
+          (first-none (λ i. eqb (keyAt a (keySegment a key) i) key) (window key) (c .missing) j m);
+      all-live = c .all-live;
     }
 
 -- The window is full and the largest depth is reached.

@@ -9,6 +9,7 @@ pub mod Blocks
 pub mod Doubling
 pub mod Updating
 pub mod Halving
+pub mod Slots
 pub mod Split
 pub mod Put
 pub mod Refusals

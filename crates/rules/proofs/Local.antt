@@ -2,7 +2,7 @@
 -- Assumes nothing.
 use mathlib.Core.Path.{_≡_, refl, sym, ap, ap₂, _∙_}
 use mathlib.Core.Bool.{Bool, true, false, not, true≢false}
-use mathlib.Core.List.{List, [], _∷_, _++_}
+use mathlib.Core.List.{List, [], _∷_, _++_, List·Memᴰ}
 use mathlib.Core.Option.{Option, none, some}
 use mathlib.Core.Logic.{⊎-elim}
 use Prim.Native.Nat.{ℕ, zero, suc, _+_, _/_, _^_, _≤_, _<_}
@@ -25,7 +25,7 @@ use Rattle.rules.specs.declared.Call.the-variants.{Format, Get, Put, Rem
 use Rattle.rules.specs.Layout.{header, depth, maxDepth, segments, wordsFor, validHeader, entryAddress, entryAt, segmentOf, localDepth, segmentAddress, keyAddress, valueAddress, keyAt, valueAt}
 use Rattle.rules.specs.Keys.{index, blockBits, window}
 use Rattle.rules.specs.Scan.{inRange, validLeader, nextLeader, leader, leadingEntry, leadersValid, entriesAgree}
-use Rattle.rules.specs.Slots.{hit, usable, firstUsable, Choice, found, into, full, choose, named, freeSegment}
+use Rattle.rules.specs.Slots.{hit, Choice, found, into, full, choose, named, freeSegment}
 use Rattle.replies.specs.Replies.{Said, unless, tested, replied, changed}
 use Rattle.rules.specs.Format.{formatTests, format}
 use Rattle.rules.specs.Get.{keyEntry, keySegment, keyTests, entryTests, getTests, valueAtHit, get}
@@ -37,6 +37,7 @@ use Rattle.rules.specs.Listing.{liveRecord, blockRecords, records, listT
 use Rattle.rules.specs.Step.{Effect, changes, answers, effect, carriedOut, step, lists}
 use Rattle.rules.proofs.Words.{ValidHeader, valid-header, header-valid, entry-inside, directories-below}
 use Rattle.rules.proofs.Keys.{index-lt, window-lt}
+use Rattle.rules.proofs.Slots.{hit-same, choose-same}
 use Rattle.rules.proofs.Scan.{range-segment, leader-le, valid-at-segment}
 use Rattle.rules.proofs.Put.{unless-none, Passed, passed, put-refused, put-found, put-into, put-too-deep, put-no-segment, put-again, Cases, put-induction}
 use Rattle.rules.proofs.Range.{hit-slot, Sizes, ownSizes}
@@ -138,25 +139,18 @@ module _ {a b : List ℕ} (s : Agree a b) where
     value-same : (j : ℕ) → j < 64 → valueAt a base j ≡ valueAt b base j
     value-same j h = s .words-same (valueAddress base j) (omega arith)
 
-    hit-same : (key : ℕ) → hit a base key ≡ hit b base key
-    unfolding hit
-    hit-same key =
-        first-same (λ j. eqb (keyAt a base j) key) (λ j. eqb (keyAt b base j) key) (window key)
-        (λ j m. rw (key-same j (window-lt key j m)))
+    window-same : (key j : ℕ) → List·Memᴰ j (window key) → keyAt a base j ≡ keyAt b base j
+    window-same key j m = key-same j (window-lt key j m)
 
-    usable-same : (L bits key : ℕ) → firstUsable a base L bits key ≡ firstUsable b base L bits key
-    unfolding firstUsable usable
-    usable-same L bits key =
-        first-same (usable a base L bits) (usable b base L bits) (window key)
-        (λ j m. rw (key-same j (window-lt key j m)))
+    hit-local : (key : ℕ) → hit a base key ≡ hit b base key
+    hit-local key = hit-same a b base base key (window-same key)
 
-    choose-same : (L bits key : ℕ) → choose a base L bits key ≡ choose b base L bits key
-    unfolding choose
-    choose-same L bits key = rw (hit-same key, usable-same L bits key)
+    choose-local : (L bits key : ℕ) → choose a base L bits key ≡ choose b base L bits key
+    choose-local L bits key = choose-same a b base base key (window-same key) L bits
 
     value-hit-same : (key : ℕ) → valueAtHit a base (hit a base key) ≡ valueAtHit b base (hit b base key)
     unfolding valueAtHit
-    value-hit-same key = rw (← hit-same key) (go (hit a base key) refl)
+    value-hit-same key = rw (← hit-local key) (go (hit a base key) refl)
       where
         go : (o : Option ℕ) → hit a base key ≡ o → valueAtHit a base o ≡ valueAtHit b base o
         go none e = refl
@@ -293,12 +287,12 @@ module _ {a b : List ℕ} (s : Agree a b) (v : ValidHeader a) where
     choice-same : keyChoice a key ≡ keyChoice b key
     unfolding keyChoice
     choice-same =
-        choose-same s (keySegment a key) key-segment-ends (localDepth (keyEntry a key))
+        choose-local s (keySegment a key) key-segment-ends (localDepth (keyEntry a key))
         (blockBits (depth a) (localDepth (keyEntry a key)) (index key (depth a))) key
         ∙ rw (key-segment-same key, key-entry-same key, word-0-same s)
 
     cleared-same : clearedAt (keySegment a key) (hit a (keySegment a key) key) ≡ clearedAt (keySegment b key) (hit b (keySegment b key) key)
-    cleared-same = rw (hit-same s (keySegment a key) key-segment-ends key, key-segment-same key)
+    cleared-same = rw (hit-local s (keySegment a key) key-segment-ends key, key-segment-same key)
 
     found-same : valueAtHit a (keySegment a key) (hit a (keySegment a key) key) ≡ valueAtHit b (keySegment b key) (hit b (keySegment b key) key)
     found-same = value-hit-same s (keySegment a key) key-segment-ends key ∙ rw (key-segment-same key)

@@ -1,6 +1,6 @@
 -- The cases of a put as laws, what its passed tests say, and induction over its splits.
 -- Assumes nothing.
-use mathlib.Core.Path.{_≡_, refl, sym, ap, _∙_}
+use mathlib.Core.Path.{_≡_, refl, sym, _∙_}
 use mathlib.Core.Bool.{Bool, true, false, not}
 use mathlib.Core.List.{List, [], _∷_, List·Memᴰ, List·Memᴰ·head, List·Memᴰ·not-nil, List·Memᴰ·append-cases, List·Memᴰ·eq-of-singleton, Memᴰ·append-left, Memᴰ·append-right}
 use mathlib.Core.Option.{Option, none, some}
@@ -19,13 +19,14 @@ use Rattle.replies.specs.declared.Refusal.the-variants.{NoStore, NoKey, Broken,
 use Rattle.rules.specs.Layout.{validHeader, depth, maxDepth, segments, segmentOf, localDepth, keyAddress, valueAddress}
 use Rattle.rules.specs.Keys.{index}
 use Rattle.rules.specs.Scan.{inRange, leadersValid, entriesAgree}
-use Rattle.rules.specs.Slots.{hit, firstUsable, Choice, found, into, full, chosen, choose, named, freeSegment}
+use Rattle.rules.specs.Slots.{hit, Choice, found, into, full, named, freeSegment}
 use Rattle.replies.specs.Replies.{Said, done, numberOf, refuse, unless, tested}
 use Rattle.rules.specs.Get.{keyEntry, keySegment, keyTests}
 use Rattle.rules.specs.Split.{splitting}
 use Rattle.rules.specs.Put.{directoryTests, putTests, keyChoice, placed, intoFree, putUnused, unused, put}
 use Rattle.rules.proofs.Words.{ValidHeader, valid-header}
 use Rattle.rules.proofs.Keys.{index-lt}
+use Rattle.rules.proofs.Slots.{IntoSlot, FullOfOthers, choose-found, choose-into, choose-full}
 use Rattle.rules.proofs.Scan.{range-depth, range-segment, consistent-in-range}
 use Rattle.rules.proofs.Doubling.{entry-of-key}
 use Rattle.rules.proofs.Halving.{keyBits}
@@ -86,69 +87,30 @@ tests-number a key =
     (unless-number 4 (leadersValid a (depth a) (segments a)) Broken _ (omega arith)
     (unless-number 4 (entriesAgree a (depth a)) Unmended none (omega arith) (λ q e. absurd (some-none q (sym e))))))
 
--- ---- The choice of a slot
+-- ---- The choice of a slot, in the segment of the key
 
--- The first hit and the first usable slot, where the window is full.
-pub chosen-full : (h u : Option ℕ) → chosen h u ≡ full → (h ≡ none) × (u ≡ none)
-unfolding chosen
-chosen-full (some j) u e = absurd (never j e)
-  where
-    never : (j : ℕ) → found j ≡ full → ⊥
-    never j p = let z : _≡_ {A = ℕ} 0 1 = cc in omega arith
-chosen-full none (some j) e = absurd (never j e)
-  where
-    never : (j : ℕ) → into j ≡ full → ⊥
-    never j p = let z : _≡_ {A = ℕ} 0 1 = cc in omega arith
-chosen-full none none e = (refl, refl)
-
-pub chosen-found : (h u : Option ℕ) (j : ℕ) → chosen h u ≡ found j → h ≡ some j
-unfolding chosen
-chosen-found (some i) u j e = ap some (inj i e)
-  where
-    inj : (i : ℕ) → found i ≡ found j → i ≡ j
-    inj i p = cc
-chosen-found none (some i) j e = absurd (never i e)
-  where
-    never : (i : ℕ) → into i ≡ found j → ⊥
-    never i p = let z : _≡_ {A = ℕ} 0 1 = cc in omega arith
-chosen-found none none j e = absurd (never e)
-  where
-    never : full ≡ found j → ⊥
-    never p = let z : _≡_ {A = ℕ} 0 1 = cc in omega arith
-
-pub chosen-into : (h u : Option ℕ) (j : ℕ) → chosen h u ≡ into j → (h ≡ none) × (u ≡ some j)
-unfolding chosen
-chosen-into (some i) u j e = absurd (never i e)
-  where
-    never : (i : ℕ) → found i ≡ into j → ⊥
-    never i p = let z : _≡_ {A = ℕ} 0 1 = cc in omega arith
-chosen-into none (some i) j e = (refl, ap some (inj i e))
-  where
-    inj : (i : ℕ) → into i ≡ into j → i ≡ j
-    inj i p = cc
-chosen-into none none j e = absurd (never e)
-  where
-    never : full ≡ into j → ⊥
-    never p = let z : _≡_ {A = ℕ} 0 1 = cc in omega arith
-
--- The first hit, and the first usable slot, in the segment of the key.
+-- The first hit; what is said of the slot for a new record of the key; the full window.
 abbrev pub keyHit : List ℕ → (key : ℕ) → Option ℕ
 keyHit a key = hit a (keySegment a key) key
 
-abbrev pub keyUsable : List ℕ → (key : ℕ) → Option ℕ
-keyUsable a key = firstUsable a (keySegment a key) (localDepth (keyEntry a key)) (keyBits a key) key
+abbrev pub KeyInto : List ℕ → (key j : ℕ) → Type 0
+KeyInto a key j = IntoSlot a (keySegment a key) (localDepth (keyEntry a key)) (keyBits a key) key j
 
-pub choice-full : (a : List ℕ) (key : ℕ) → keyChoice a key ≡ full → (keyHit a key ≡ none) × (keyUsable a key ≡ none)
-unfolding keyChoice choose
-choice-full a key e = chosen-full (keyHit a key) (keyUsable a key) e
+abbrev pub KeyFull : List ℕ → (key : ℕ) → Type 0
+KeyFull a key = FullOfOthers a (keySegment a key) (localDepth (keyEntry a key)) (keyBits a key) key
 
-pub choice-found : (a : List ℕ) (key j : ℕ) → keyChoice a key ≡ found j → keyHit a key ≡ some j
-unfolding keyChoice choose
-choice-found a key j e = chosen-found (keyHit a key) (keyUsable a key) j e
+module _ (a : List ℕ) (key : ℕ) where
+  pub choice-found : (j : ℕ) → keyChoice a key ≡ found j → keyHit a key ≡ some j
+  unfolding keyChoice
+  choice-found = choose-found a (keySegment a key) (localDepth (keyEntry a key)) (keyBits a key) key
 
-pub choice-into : (a : List ℕ) (key j : ℕ) → keyChoice a key ≡ into j → (keyHit a key ≡ none) × (keyUsable a key ≡ some j)
-unfolding keyChoice choose
-choice-into a key j e = chosen-into (keyHit a key) (keyUsable a key) j e
+  pub choice-into : (j : ℕ) → keyChoice a key ≡ into j → KeyInto a key j
+  unfolding keyChoice
+  choice-into = choose-into a (keySegment a key) (localDepth (keyEntry a key)) (keyBits a key) key
+
+  pub choice-full : keyChoice a key ≡ full → KeyFull a key
+  unfolding keyChoice
+  choice-full = choose-full a (keySegment a key) (localDepth (keyEntry a key)) (keyBits a key) key
 
 -- ---- The free segment
 
@@ -184,7 +146,7 @@ free-none a e s h =
 
 -- ---- The cases of a put
 
--- The stores of a put at the slot that has the key, and into a usable slot.
+-- The stores of a put at the slot that has the key, and into the slot for a new key.
 abbrev pub renewed : List ℕ → (key value j : ℕ) → Plan Said
 renewed a key value j = record { due = store (valueAddress (keySegment a key) j) value ∷ []; reply = done [] }
 
@@ -262,8 +224,8 @@ module _ (a : List ℕ) (key value : ℕ) where
 
 -- ---- Induction over the splits of a put
 
--- That P holds of the array and the plan of a put on it, case by case: the tests refuse; the put finds the key, or a usable
--- slot; the window is full and the largest depth is reached, or no segment is free; or P holds behind a split.
+-- That P holds of the array and the plan of a put on it, case by case: the tests refuse; the put finds the key, or a
+-- slot for it; the window is full and the largest depth is reached, or no segment is free; or P holds behind a split.
 pub record Cases (key value : ℕ) (P : List ℕ → Plan Said → Type 0) : Type 0 where
   pub when-refused : (a : List ℕ) (r : Refusal) → putTests a key ≡ some r → P a (reply-only (refuse r))
   pub when-found : (a : List ℕ) (j : ℕ) → Passed a key → keyChoice a key ≡ found j → P a (renewed a key value j)

@@ -25,7 +25,7 @@ use Rattle.rules.specs.declared.Call.the-variants.{Format, Get, Put, Rem
 use Rattle.rules.specs.Layout.{header, depth, maxDepth, segments, wordsFor, validShape, validHeader, entryAddress, entryAt, segmentOf, segmentAddress, keyAddress, valueAddress}
 use Rattle.rules.specs.Keys.{window}
 use Rattle.rules.specs.Scan.{leadingEntry}
-use Rattle.rules.specs.Slots.{hit, usable, firstUsable}
+use Rattle.rules.specs.Slots.{hit}
 use Rattle.replies.specs.Replies.{Said, done, refuse, tested, changed}
 use Rattle.rules.specs.Format.{formatTests, formatStores, format}
 use Rattle.rules.specs.Get.{keyEntry, keySegment}
@@ -81,15 +81,11 @@ format-range a D S =
       ),
     ))
 
--- ---- The slots that a search finds
+-- ---- The slot that a search finds
 
 pub hit-slot : (a : List ℕ) (base key j : ℕ) → hit a base key ≡ some j → j < 64
 unfolding hit
 hit-slot a base key j e = window-lt key j (first-some (λ j. eqb (word a (keyAddress base j)) key) (window key) j e .0)
-
-pub usable-slot : (a : List ℕ) (base L bits key j : ℕ) → firstUsable a base L bits key ≡ some j → j < 64
-unfolding firstUsable
-usable-slot a base L bits key j e = window-lt key j (first-some (usable a base L bits) (window key) j e .0)
 
 module _ (a : List ℕ) (key j : ℕ) (s : segmentOf (keyEntry a key) < segments a) (h : j < 64) where
   key-below : keyAddress (keySegment a key) j < wordsFor (maxDepth a) (segments a)
@@ -109,7 +105,7 @@ put-range a key value =
       when-refused = λ a r e. Prim.tt;
       when-found = λ a j p c. (value-below a key j (p .segment-below) (hit-slot a _ key j (choice-found a key j c)), Prim.tt);
       when-into = λ a j p c.
-          let h : j < 64 = usable-slot a _ _ _ key j (choice-into a key j c .1) in
+          let h : j < 64 = window-lt key j (choice-into a key j c .in-window) in
           (value-below a key j (p .segment-below) h, (key-below a key j (p .segment-below) h, Prim.tt));
       when-deep = λ a p c d. Prim.tt;
       when-none = λ a p c d f. Prim.tt;

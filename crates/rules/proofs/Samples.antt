@@ -1,5 +1,5 @@
--- Further states, by the test of the known states, which antt computes: damaged arrays, cuts, stale records, listings, and what
--- else document 01's sentences say and its table does not show.
+-- Further states, by the test of the known states, which antt computes: damaged arrays, cuts, stale records, the slot for a new
+-- key, listings, and what else the sentences of documents 01 and 02 say and the table of known states does not show.
 -- Assumes nothing.
 use Prim.Native.Nat.{ℕ, _+_, _*_}
 use mathlib.Core.Path.{_≡_, refl}
@@ -38,6 +38,15 @@ slot j key = store (8 + 2 * j) key ∷ store (9 + 2 * j) (10 * key) ∷ []
 abbrev fullLeft : List Store
 fullLeft = each (λ i. slot (28 + i) (7 + 32 * i)) 16
 
+-- An index of depth 1 with two blocks, in which n slots of segment 0 from 28 on have keys of the right block: stale there.
+abbrev staleLeft : (n : ℕ) → List Store
+staleLeft n = present 1 ∷ entry₁ 0 0 1 ∷ entry₁ 1 1 1 ∷ each (λ i. slot (28 + i) (23 + 32 * i)) n
+
+-- Known state e: the split has moved eight pages to segment 1 and left their records in slots 29, 31, .. 43 of segment 0, where
+-- 263 took the first; slots 44 to 47 are empty.
+abbrev moved : List Call
+moved = sixteen 4 ++ (P263 10000 ∷ [])
+
 -- A call on an index with damage.
 abbrev damaged : List Store → Call → Said → (made : ℕ) → List Store → List Names → List Lookup → Row
 damaged damage call said made words entries lookups =
@@ -72,6 +81,22 @@ samples =
     ∷ damaged (present 1 ∷ entry₁ 0 0 1 ∷ entry₁ 1 1 1 ∷ slot 0 48 ++ (store 264 9 ∷ fullLeft)) (P 519) (done []) 81 (stands 8 48 ∷ stands 264 0 ∷ [])
     (names 0 2 ∷ names 2 2 ∷ names 1 1 ∷ names 1 1 ∷ [])
     (pages 7 32 17)
+    -- a new key takes an empty slot behind a stale one; also where only the last slot of its window is empty; and where none is, the
+    -- first stale one
+    ∷ damaged (staleLeft 1) (P 7) (done []) 2 (stands 64 23 ∷ stands 65 230 ∷ stands 66 7 ∷ stands 67 70 ∷ []) [] (page 7 ∷ [])
+    ∷ damaged (staleLeft 15) (P 7) (done []) 2 (stands 64 23 ∷ stands 94 7 ∷ stands 95 70 ∷ []) [] (page 7 ∷ [])
+    ∷ damaged (staleLeft 16) (P 7) (done []) 2 (stands 64 7 ∷ stands 65 70 ∷ stands 66 55 ∷ []) [] (page 7 ∷ [])
+    ∷ row 520 moved (P 519) (done []) 2 (stands 70 519 ∷ stands 74 87 ∷ []) [] (page 519 ∷ page 55 ∷ [])
+    -- an empty slot beside a stale one of its bucket; and one in a later bucket, slot 44, before the stale ones of the key's own
+    ∷ row 520 (moved ++ (Remove 103 10000 ∷ [])) (P 8) (done []) 2 (stands 74 87 ∷ stands 76 8 ∷ []) [] (page 8 ∷ page 87 ∷ missing 103 ∷ [])
+    ∷ row 520 moved (P 8) (done []) 2 (stands 74 87 ∷ stands 96 8 ∷ stands 97 80 ∷ []) [] (page 8 ∷ page 87 ∷ [])
+    -- the put that splits, of a key for the new segment: none of its slots is stale, and the first empty one is 28
+    ∷ row 520 (sixteen 4) (P 279) (done []) 79 (stands 192 279 ∷ stands 193 2790 ∷ stands 66 23 ∷ []) (names 0 1 ∷ names 1 1 ∷ []) (pages 7 16 16 ++ (page 279 ∷ []))
+    -- what the bench operators look for: after four puts with empty slots in their windows, the records of the moved pages 55, 87, ..
+    -- 247 still stand where the pages were before the split; a fifth put finds no empty slot and takes the first of them in its window
+    ∷ row 520 (moved ++ fill 8 32 3) (P 104) (done []) 2 (each (λ i. stands (70 + 4 * i) (55 + 32 * i) ∷ stands (71 + 4 * i) (550 + 320 * i) ∷ []) 7) []
+    (pages 55 32 7 ++ pages 8 32 4)
+    ∷ row 520 (moved ++ fill 8 32 4) (P 136) (done []) 2 (stands 70 55 ∷ stands 74 136 ∷ stands 78 119 ∷ []) [] (pages 55 32 7 ++ pages 8 32 5)
     -- the free segment is the smallest that no entry names
     ∷ damaged (present 1 ∷ entry₁ 0 0 1 ∷ entry₁ 1 2 1 ∷ fullLeft) (P 519) (done []) 81 [] (names 0 2 ∷ names 1 2 ∷ names 2 1 ∷ names 2 1 ∷ []) []
     -- mending gives each entry its leader's word, also where the entry to its left was wrong
@@ -105,8 +130,8 @@ samples =
     ∷ listed (F 4 ∷ []) 0 (done (0 ∷ []))
     ∷ listed (sixteen 4) 32 (done (16 ∷ []))
     ∷ listed (sixteen 4) 31 (refused 10)
-    ∷ listed (sixteen 4 ++ (P263 10000 ∷ [])) 34 (done (17 ∷ []))
-    ∷ listed (sixteen 4 ++ (P263 10000 ∷ [])) 33 (refused 10)
+    ∷ listed moved 34 (done (17 ∷ []))
+    ∷ listed moved 33 (refused 10)
     ∷ []
 
 pub samples-pass : allPass samples ≡ true

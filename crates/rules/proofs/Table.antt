@@ -3,6 +3,7 @@
 use Prim.Native.Nat.{ℕ, suc}
 use mathlib.Core.Bool.{Bool, true, _&&_}
 use mathlib.Core.List.{List, [], _∷_}
+use mathlib.Core.Option.{orElse}
 use lib.Dec.{eqb}
 use lib.ListN.{replicate}
 use Rattle.stores.specs.Lists.{each, firstIn, allBelow, anyBelow, numbersSame}
@@ -12,7 +13,7 @@ use Rattle.rules.specs.declared.Call.{Call}
 use Rattle.rules.specs.Layout.{depthIn, maxDepthIn, segmentsIn, markIn, header, depth, wordsFor, validShape, validHeader, entryAddress, entryAt, segmentOf, localDepth, entry, segmentAddress}
 use Rattle.rules.specs.Keys.{bucket, directoryBits, bitOf, firstBits, bit, index, width, blockBits, blockStart, live, windowBucket, slotsOf, window}
 use Rattle.rules.specs.Scan.{inRange, validLeader, nextLeader, leader, leadersValid, entriesAgree}
-use Rattle.rules.specs.Slots.{hit, usable, firstUsable, chosen, choose, named, freeSegment}
+use Rattle.rules.specs.Slots.{hit, isEmpty, isStale, slotForNew, chosen, choose, named, freeSegment}
 use Rattle.replies.specs.Replies.{Said, saidSame, unless, tested, replied, changed}
 use Rattle.rules.specs.Format.{formatTests, formatStores, format}
 use Rattle.rules.specs.Get.{keyEntry, keySegment, keyTests, entryTests, getTests, valueAtHit, get}
@@ -51,7 +52,7 @@ pub data Row : Type 0 where
 
 -- A step that antt computes: an `unfolding` line that names it opens all definitions of the calls.
 unfoldable pub computed : List ℕ → (room : ℕ) → Call → Outcome Said
-unfolding each firstIn allBelow anyBelow apply exec cut depthIn maxDepthIn segmentsIn markIn header wordsFor validShape validHeader entryAddress segmentOf localDepth entry segmentAddress bucket directoryBits bitOf firstBits bit index width blockBits blockStart live windowBucket slotsOf window inRange validLeader nextLeader leader leadersValid entriesAgree hit usable firstUsable chosen choose named freeSegment unless tested replied formatTests formatStores format keyEntry keySegment keyTests entryTests getTests valueAtHit get doubling moves copySlot copying halfEntry updating halvingOf halving doublingFor splitting directoryTests putTests keyChoice placed intoFree putUnused unused put removeTests clearedAt remove mendTests mendEntry mending mend liveRecord blockRecords records listTests list changed effect step
+unfolding each firstIn allBelow anyBelow apply exec cut depthIn maxDepthIn segmentsIn markIn header wordsFor validShape validHeader entryAddress segmentOf localDepth entry segmentAddress bucket directoryBits bitOf firstBits bit index width blockBits blockStart live windowBucket slotsOf window inRange validLeader nextLeader leader leadersValid entriesAgree hit isEmpty isStale orElse slotForNew chosen choose named freeSegment unless tested replied formatTests formatStores format keyEntry keySegment keyTests entryTests getTests valueAtHit get doubling moves copySlot copying halfEntry updating halvingOf halving doublingFor splitting directoryTests putTests keyChoice placed intoFree putUnused unused put removeTests clearedAt remove mendTests mendEntry mending mend liveRecord blockRecords records listTests list changed effect step
 computed a room call = step a room call
 
 -- The array after some calls, each made with no list array.

@@ -9,21 +9,31 @@ use mathlib.Core.Path.{_≡_, refl, sym, ap, _∙_}
 use mathlib.Core.Bool.{Bool, true, false, not}
 use mathlib.Core.List.{List, [], _∷_, _++_}
 use mathlib.Core.Logic.{⊎-elim}
-use mathlib.Core.Option.{Option, none, some}
+use mathlib.Core.Option.{Option, none, some, orElse}
 use Rattle.stores.specs.Store.{word}
 use Rattle.stores.specs.Lists.{each, firstIn}
 use Rattle.stores.proofs.Lists.{each-suc, first-append, first-append-some, first-here, first-next}
 use Rattle.rules.specs.Layout.{keyAt}
 use Rattle.rules.specs.Keys.{live, slotsOf, window, windowBucket}
-use Rattle.rules.specs.Slots.{hit, usable, firstUsable, choose, chosen, found}
+use Rattle.rules.specs.Slots.{hit, isEmpty, choose, chosen, found}
 use Rattle.rules.proofs.Keys.{slots-each, window-each}
-use Rattle.segment.specs.Bucket.{bucketWords, has}
+use Rattle.rules.proofs.Slots.{slot-by-live}
+use Rattle.segment.specs.Bucket.{bucketWords, has, usable}
 
 first-nothing : (p : ℕ → Bool) → firstIn p [] ≡ none
 unfolding firstIn
 first-nothing p = refl
 
 -- ---- Joined lists, one by one
+
+-- The first in two lists: that of the first list, or else that of the second.
+first-joined : (p : ℕ → Bool) (xs ys : List ℕ) → firstIn p (xs ++ ys) ≡ orElse (firstIn p xs) (firstIn p ys)
+unfolding orElse
+first-joined p xs ys = go (firstIn p xs) refl
+  where
+    go : (o : Option ℕ) → firstIn p xs ≡ o → firstIn p (xs ++ ys) ≡ orElse o (firstIn p ys)
+    go none e = first-append p xs ys e
+    go (some y) e = first-append-some p xs ys y e
 
 module _ (p : ℕ → Bool) (f : ℕ → List ℕ) where
   -- Nothing in the lists so far passes, and nothing in the next one.
@@ -80,8 +90,12 @@ module _ (p : ℕ → Bool) (key : ℕ) where
     pub bucket-hit : (y : ℕ) → b < 4 → firstIn p (slotsOf number) ≡ some y → firstIn p (window key) ≡ some y
     bucket-hit y k h = rw (window-each key) (each-hit p (λ i. slotsOf (windowBucket key i)) y b 4 k e (rw (← q) h))
 
-pub window-more : (key b number : ℕ) → number ≡ windowBucket key b → windowBefore key (b + 1) ≡ windowBefore key b ++ slotsOf number
-window-more key b number q = rw (add-one b, q) (each-suc (λ i. slotsOf (windowBucket key i)) b)
+  -- The first of the buckets so far, or else the first of the next one.
+  pub bucket-joined : (b number : ℕ) (o : Option ℕ) → number ≡ windowBucket key b → o ≡ firstIn p (windowBefore key b)
+      → orElse o (firstIn p (slotsOf number)) ≡ firstIn p (windowBefore key (b + 1))
+  bucket-joined b number o q e =
+      rw (e, q, add-one b, each-suc (λ i. slotsOf (windowBucket key i)) b)
+      (sym (first-joined p (windowBefore key b) (slotsOf (windowBucket key b))))
 
 -- ---- A bucket's words
 
@@ -104,8 +118,7 @@ module _ (a words : List ℕ) (b j key : ℕ) (e : words ≡ bucketWords a b) (k
   pub slot-has-not : (word words (2 * j) ≡ key → ⊥) → has key a (4 * b + j) ≡ false
   slot-has-not h = ne-eqb (keyAt a 0 (4 * b + j)) key (λ q. h (sym bucket-slot ∙ q))
 
-  pub slot-usable : (L bits : ℕ) (t : Bool) → t ≡ live L bits (word words (2 * j)) → usable a 0 L bits (4 * b + j) ≡ not t
-  unfolding usable
+  pub slot-usable : (L bits : ℕ) (t : Bool) → t ≡ live L bits (word words (2 * j)) → usable L bits a (4 * b + j) ≡ not t
   slot-usable L bits t h = rw (bucket-slot, h)
 
 -- ---- The choice of a slot
@@ -116,8 +129,10 @@ module _ (a : List ℕ) (L bits key : ℕ) where
   unfolding choose chosen hit
   choose-found j e = rw e
 
-  -- None has it, and the first usable one is known.
-  pub choose-else : (u : Option ℕ) → firstIn (has key a) (windowBefore key 4) ≡ none
-      → u ≡ firstIn (usable a 0 L bits) (windowBefore key 4) → choose a 0 L bits key ≡ chosen none u
-  unfolding choose hit firstUsable
-  choose-else u e f = rw (window-each key, e, f)
+  -- None has it, and the first empty and the first usable one are known.
+  pub choose-else : (e u : Option ℕ) → firstIn (has key a) (windowBefore key 4) ≡ none
+      → e ≡ firstIn (has 0 a) (windowBefore key 4)
+      → u ≡ firstIn (usable L bits a) (windowBefore key 4)
+      → choose a 0 L bits key ≡ chosen none (orElse e u)
+  unfolding choose hit isEmpty
+  choose-else e u h f g = rw (slot-by-live a 0 L bits key, window-each key, h, f, g)

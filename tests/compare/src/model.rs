@@ -1,4 +1,4 @@
-//! The six calls written from document 01 alone. A call is first a list of stores and a reply, both
+//! The six calls written from documents 01 and 02 alone. A call is first a list of stores and a reply, both
 //! computed on a copy of the array; then as many of the stores as are allowed are made.
 
 pub const DONE: u32 = 0;
@@ -128,6 +128,15 @@ fn is_live(key: u64, block: &[bool]) -> bool {
     key != 0 && route(key, block.len() as u64) == block
 }
 
+/// The address of the key word of the slot that a new key takes: the first empty slot of its window, and only
+/// where none is empty the first stale one.
+fn slot_for_new(words: &[u64], shape: Shape, e: Entry, key: u64) -> Option<usize> {
+    let block = route(key, e.depth);
+    let slots = || window(key).map(|slot| slot_address(shape, e.segment, slot));
+    let empty = slots().find(|&at| words[at] == 0);
+    empty.or_else(|| slots().find(|&at| words[at] != 0 && !is_live(words[at], &block)))
+}
+
 /// The tests of put and remove.
 fn checked(words: &[u64], key: u64) -> Result<Shape, u32> {
     let shape = shape(words).ok_or(1u32)?;
@@ -176,11 +185,7 @@ fn put(draft: &mut Draft, key: u64, value: u64) -> u32 {
             draft.store(at + 1, value);
             return DONE;
         }
-        let block = route(key, e.depth);
-        let usable = window(key)
-            .map(|slot| slot_address(shape, e.segment, slot))
-            .find(|&at| !is_live(draft.words[at], &block));
-        if let Some(at) = usable {
+        if let Some(at) = slot_for_new(&draft.words, shape, e, key) {
             draft.store(at + 1, value);
             draft.store(at, key);
             return DONE;

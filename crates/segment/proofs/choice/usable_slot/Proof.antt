@@ -8,8 +8,7 @@ use mathlib.Core.List.{List}
 use mathlib.Core.Option.{none}
 use Rattle.stores.specs.Lists.{firstIn}
 use Rattle.layout.specs.Blocks.{shared}
-use Rattle.rules.specs.Slots.{usable}
-use Rattle.segment.specs.Bucket.{bucketWords}
+use Rattle.segment.specs.Bucket.{bucketWords, usable}
 use Rattle.segment.proofs.Search.{slotsBefore, no-slot-yet, slot-passed, slot-hit, no-slot, slot-usable}
 use Rattle.segment.proofs.choice.usable_slot.Statement.{statement}
 use Rattle.segment.proofs.choice.usable_slot.Tie as tie
@@ -17,7 +16,7 @@ use Rattle.segment.proofs.choice.usable_slot.Tie as tie
 abbrev Inv-loop : tie.InvT-loop
 Inv-loop number block bucket j₀ j =
     (j ≤ 4)
-    × ((a : List ℕ) → bucket .words ≡ bucketWords a number → firstIn (usable a 0 (block .«local_depth») (shared block)) (slotsBefore number j) ≡ none)
+    × ((a : List ℕ) → bucket .words ≡ bucketWords a number → firstIn (usable (block .«local_depth») (shared block) a) (slotsBefore number j) ≡ none)
 
 abbrev μ-loop : tie.MeasureT-loop
 μ-loop number block bucket j₀ j = 4 - j

@@ -1,10 +1,10 @@
 use borrow.Author.Needs.{needs}
 use Prim.Native.Nat.{_-_, _≤_}
-use Rattle.index_model.proofs.placing.find_room.Statement.{statement}
-use Rattle.index_model.proofs.placing.find_room.Tie as tie
+use Rattle.index_model.proofs.placing.find_stale.Statement.{statement}
+use Rattle.index_model.proofs.placing.find_stale.Tie as tie
 
-pub find-room-spec : {M : Type 1} → statement M
-find-room-spec =
+pub find-stale-spec : {M : Type 1} → statement M
+find-stale-spec =
     tie.close
     (tie.spec
     (λ words block key number₀ number. 0 ≤ number)

@@ -1,0 +1,164 @@
+-- Laws of the slots that the calls look for: the first hit, the slot for a new key, the choice of a put. But for the computed rows,
+-- this file alone opens the slot for a new key: the proofs above use that it is in the window and not live.
+-- Assumes nothing.
+use mathlib.Core.Path.{_≡_, refl, ap, ap₂}
+use mathlib.Core.Bool.{true, false, not}
+use mathlib.Core.List.{List, List·Memᴰ}
+use mathlib.Core.Logic.{⊎-elim}
+use mathlib.Core.Option.{Option, none, some, orElse}
+use mathlib.Mathlib.Data.Option.Basic.{orElse-eq-some, orElse-eq-none}
+use Prim.Native.Nat.{ℕ}
+use native.Mathlib.Omega.{arith}
+use borrow.Author.Tests.{eqb-true, not-true, not-false}
+use lib.Dec.{eqb}
+use Rattle.stores.specs.Lists.{firstIn}
+use Rattle.stores.proofs.Tests.{and-right}
+use Rattle.stores.proofs.Lists.{first-same, first-some, first-none}
+use Rattle.rules.specs.Layout.{keyAt}
+use Rattle.rules.specs.Keys.{live, window}
+use Rattle.rules.specs.Slots.{hit, isEmpty, isStale, slotForNew, found, into, full, chosen, choose}
+use Rattle.rules.proofs.Keys.{live-empty}
+
+-- ---- The slot for a new key: there is one exactly where some slot of the window is not live
+
+module _ (a : List ℕ) (base L bits : ℕ) where
+  empty-not-live : (j : ℕ) → isEmpty a base j ≡ true → live L bits (keyAt a base j) ≡ false
+  unfolding isEmpty
+  empty-not-live j e = rw (eqb-true (keyAt a base j) 0 e) (live-empty L bits)
+
+  stale-not-live : (j : ℕ) → isStale a base L bits j ≡ true → live L bits (keyAt a base j) ≡ false
+  unfolding isStale
+  stale-not-live j e = not-true (live L bits (keyAt a base j)) (and-right (not (isEmpty a base j)) _ e)
+
+  neither-live : (j : ℕ) → isEmpty a base j ≡ false → isStale a base L bits j ≡ false → live L bits (keyAt a base j) ≡ true
+  unfolding isStale
+  neither-live j e s = not-false (live L bits (keyAt a base j)) (rw e at s)
+
+  -- It is a slot of the window, and not live.
+  pub new-slot : (key j : ℕ) → slotForNew a base L bits key ≡ some j
+      → List·Memᴰ j (window key) × (live L bits (keyAt a base j) ≡ false)
+  unfolding slotForNew
+  new-slot key j e =
+      ⊎-elim
+      (λ (q : firstIn (isEmpty a base) (window key) ≡ some j).
+      let r = first-some (isEmpty a base) (window key) j q in
+      (r .0, empty-not-live j (r .1)))
+      (λ (q : (firstIn (isEmpty a base) (window key) ≡ none) × (firstIn (isStale a base L bits) (window key) ≡ some j)).
+      let r = first-some (isStale a base L bits) (window key) j (q .1) in
+      (r .0, stale-not-live j (r .1)))
+      (orElse-eq-some (firstIn (isEmpty a base) (window key)) (firstIn (isStale a base L bits) (window key)) j .0 e)
+
+  -- Where there is none, every slot of the window is live.
+  pub no-new-slot : (key : ℕ) → slotForNew a base L bits key ≡ none
+      → (j : ℕ) → List·Memᴰ j (window key) → live L bits (keyAt a base j) ≡ true
+  unfolding slotForNew
+  no-new-slot key e j m =
+      let n = orElse-eq-none (firstIn (isEmpty a base) (window key)) (firstIn (isStale a base L bits) (window key)) .0 e in
+      neither-live j
+      (first-none (isEmpty a base) (window key) (n .0) j m)
+      (first-none (isStale a base L bits) (window key) (n .1) j m)
+
+  -- Where none is empty, the first stale slot is the first that is not live.
+  pub slot-by-live : (key : ℕ)
+      → slotForNew a base L bits key
+      ≡ orElse (firstIn (isEmpty a base) (window key)) (firstIn (λ j. not (live L bits (keyAt a base j))) (window key))
+  unfolding slotForNew isStale orElse
+  slot-by-live key = go (firstIn (isEmpty a base) (window key)) refl
+    where
+      go : (o : Option ℕ) → firstIn (isEmpty a base) (window key) ≡ o
+          → orElse o (firstIn (isStale a base L bits) (window key)) ≡ orElse o (firstIn (λ j. not (live L bits (keyAt a base j))) (window key))
+      go (some j) e = refl
+      go none e = first-same _ _ (window key) (λ j m. rw (first-none (isEmpty a base) (window key) e j m))
+
+-- ---- The choice of a put
+
+-- The slot for a new record: no slot of the window has the key, and this one is in the window and not live.
+pub record IntoSlot (a : List ℕ) (base L bits key j : ℕ) : Type 0 where
+  pub missing : hit a base key ≡ none
+  pub in-window : List·Memᴰ j (window key)
+  pub not-live : live L bits (keyAt a base j) ≡ false
+
+-- The window is full: no slot of it has the key, and each is live.
+pub record FullOfOthers (a : List ℕ) (base L bits key : ℕ) : Type 0 where
+  pub missing : hit a base key ≡ none
+  pub all-live : (j : ℕ) → List·Memᴰ j (window key) → live L bits (keyAt a base j) ≡ true
+
+chosen-full : (h n : Option ℕ) → chosen h n ≡ full → (h ≡ none) × (n ≡ none)
+unfolding chosen
+chosen-full (some j) n e = absurd (never j e)
+  where
+    never : (j : ℕ) → found j ≡ full → ⊥
+    never j p = let z : _≡_ {A = ℕ} 0 1 = cc in omega arith
+chosen-full none (some j) e = absurd (never j e)
+  where
+    never : (j : ℕ) → into j ≡ full → ⊥
+    never j p = let z : _≡_ {A = ℕ} 0 1 = cc in omega arith
+chosen-full none none e = (refl, refl)
+
+chosen-found : (h n : Option ℕ) (j : ℕ) → chosen h n ≡ found j → h ≡ some j
+unfolding chosen
+chosen-found (some i) n j e = ap some (inj i e)
+  where
+    inj : (i : ℕ) → found i ≡ found j → i ≡ j
+    inj i p = cc
+chosen-found none (some i) j e = absurd (never i e)
+  where
+    never : (i : ℕ) → into i ≡ found j → ⊥
+    never i p = let z : _≡_ {A = ℕ} 0 1 = cc in omega arith
+chosen-found none none j e = absurd (never e)
+  where
+    never : full ≡ found j → ⊥
+    never p = let z : _≡_ {A = ℕ} 0 1 = cc in omega arith
+
+chosen-into : (h n : Option ℕ) (j : ℕ) → chosen h n ≡ into j → (h ≡ none) × (n ≡ some j)
+unfolding chosen
+chosen-into (some i) n j e = absurd (never i e)
+  where
+    never : (i : ℕ) → found i ≡ into j → ⊥
+    never i p = let z : _≡_ {A = ℕ} 0 1 = cc in omega arith
+chosen-into none (some i) j e = (refl, ap some (inj i e))
+  where
+    inj : (i : ℕ) → into i ≡ into j → i ≡ j
+    inj i p = cc
+chosen-into none none j e = absurd (never e)
+  where
+    never : full ≡ into j → ⊥
+    never p = let z : _≡_ {A = ℕ} 0 1 = cc in omega arith
+
+module _ (a : List ℕ) (base L bits key : ℕ) where
+  pub choose-found : (j : ℕ) → choose a base L bits key ≡ found j → hit a base key ≡ some j
+  unfolding choose
+  choose-found j e = chosen-found (hit a base key) (slotForNew a base L bits key) j e
+
+  pub choose-into : (j : ℕ) → choose a base L bits key ≡ into j → IntoSlot a base L bits key j
+  unfolding choose
+  choose-into j e =
+      let c = chosen-into (hit a base key) (slotForNew a base L bits key) j e in
+      let slot = new-slot a base L bits key j (c .1) in
+      record { missing = c .0; in-window = slot .0; not-live = slot .1 }
+
+  pub choose-full : choose a base L bits key ≡ full → FullOfOthers a base L bits key
+  unfolding choose
+  choose-full e =
+      let c = chosen-full (hit a base key) (slotForNew a base L bits key) e in
+      record { missing = c .0; all-live = no-new-slot a base L bits key (c .1) }
+
+-- ---- Hit and choice go by the keys of the window alone, wherever the segment stands
+
+module _ (a b : List ℕ) (base base′ key : ℕ) (same : (j : ℕ) → List·Memᴰ j (window key) → keyAt a base j ≡ keyAt b base′ j) where
+  pub hit-same : hit a base key ≡ hit b base′ key
+  unfolding hit
+  hit-same =
+      first-same (λ j. eqb (keyAt a base j) key) (λ j. eqb (keyAt b base′ j) key) (window key)
+      (λ j m. rw (same j m))
+
+  new-same : (L bits : ℕ) → slotForNew a base L bits key ≡ slotForNew b base′ L bits key
+  unfolding slotForNew isEmpty isStale
+  new-same L bits =
+      ap₂ orElse
+      (first-same (isEmpty a base) (isEmpty b base′) (window key) (λ j m. rw (same j m)))
+      (first-same (isStale a base L bits) (isStale b base′ L bits) (window key) (λ j m. rw (same j m)))
+
+  pub choose-same : (L bits : ℕ) → choose a base L bits key ≡ choose b base′ L bits key
+  unfolding choose
+  choose-same L bits = ap₂ chosen hit-same (new-same L bits)
