@@ -11,7 +11,7 @@ namespace {
 constexpr word in_use = 70000;
 // The calls between two looks at the clock, where it is stopped for others.
 constexpr word batch = 2048;
-constexpr word until_refusal(bool running) { return running ? 162815 : 78206; }
+constexpr word until_refusal(bool running) { return running ? 162815 : 89159; }
 
 word place(word page) { return 3 * page; }
 

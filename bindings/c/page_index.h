@@ -73,7 +73,8 @@ struct page_index_reply page_index_get(const uint64_t *words, size_t len, uint64
 /*
  * Gives the key this value, whether it had one or not. Usually 1 or 2 stores; where segments are
  * split, up to 9,764. After the codes 5 and 6 the stores of splits already made stay, and no page
- * has changed. Codes: 0, 1 to 7.
+ * has changed. A split leaves the records that it copies where they were; a new key takes an empty
+ * slot, and one of these only where none of its sixteen slots is empty. Codes: 0, 1 to 7.
  */
 struct page_index_reply page_index_put(uint64_t *words, size_t len, uint64_t key, uint64_t value,
                                        uint32_t allowance);

@@ -138,7 +138,8 @@ pub fn get(words: &[u64], key: u64) -> Result<Option<u64>, Refused> {
     answered(reply).map(|done| done.map(|reply| reply.value))
 }
 
-/// Gives the key this value, and answers the number of stores.
+/// Gives the key this value, and answers the number of stores. A new key takes an empty slot; only where
+/// none of its sixteen slots is empty, one with a record that a split has copied to another segment.
 pub fn put(words: &mut [u64], key: u64, value: u64, allowance: u32) -> Result<u32, Refused> {
     // SAFETY: as in `format`.
     stores(unsafe { page_index_put(words.as_mut_ptr(), words.len(), key, value, allowance) })

@@ -1,7 +1,8 @@
-// The model: document 01's calls written a second time, from the document alone. It shares no function
-// and no definition with `index` or `rules`, and works in another way: a call first makes all its due
-// stores on a copy and notes each, whatever the allowance; then the first noted stores, as many as are
-// allowed, are made on the array. Blocks and used segments are found by marking.
+// The model: document 01's calls, as document 02 changes them, written a second time, from the documents
+// alone. It shares no function and no definition with `index` or `rules`, and works in another way: a
+// call first makes all its due stores on a copy and notes each, whatever the allowance; then the first
+// noted stores, as many as are allowed, are made on the array. Blocks and used segments are found by
+// marking.
 //
 // An index is the first `length` words of an array of the type `Cells`.
 mod draft;

@@ -2,50 +2,28 @@
 -- Assumes nothing.
 use mathlib.Core.Path.{_≡_}
 use mathlib.Core.Bool.{true}
-use mathlib.Core.List.{List, [], List·Memᴰ}
+use mathlib.Core.List.{List, []}
 use Prim.Native.Nat.{ℕ, _<_}
 use native.Mathlib.Omega.{arith}
-use borrow.Author.Tests.{eqb-false}
-use lib.Dec.{eqb}
 use Rattle.stores.specs.Store.{apply}
 use Rattle.stores.specs.Plan.{Plan}
-use Rattle.stores.proofs.Lists.{first-none}
 use Rattle.stores.proofs.Stores.{apply-append}
-use Rattle.rules.specs.Layout.{maxDepth, segments, localDepth, keyAt}
-use Rattle.rules.specs.Keys.{live, window}
-use Rattle.rules.specs.Slots.{full, hit, named}
+use Rattle.rules.specs.Layout.{maxDepth, segments, localDepth}
+use Rattle.rules.specs.Slots.{named}
 use Rattle.replies.specs.Replies.{Said, done, refused, numberOf}
-use Rattle.rules.specs.Get.{keyEntry, keySegment}
+use Rattle.rules.specs.Get.{keyEntry}
 use Rattle.rules.specs.Split.{splitting}
-use Rattle.rules.specs.Put.{keyChoice, put}
-use Rattle.rules.proofs.Put.{choice-full, free-none, tests-number, Cases, put-induction}
-use Rattle.rules.proofs.Halving.{keyBits}
-
--- Every slot of the key's probe window has another key, which is live there.
-pub record FullWindow (a : List ℕ) (key : ℕ) : Type 0 where
-  pub others : (j : ℕ) → List·Memᴰ j (window key) → keyAt a (keySegment a key) j ≡ key → ⊥
-  pub all-live : (j : ℕ) → List·Memᴰ j (window key)
-      → live (localDepth (keyEntry a key)) (keyBits a key) (keyAt a (keySegment a key) j) ≡ true
-
-pub full-window : (a : List ℕ) (key : ℕ) → keyChoice a key ≡ full → FullWindow a key
-unfolding hit
-full-window a key e =
-    let c = choice-full a key e in
-    record {
-      others = λ j m.
-          eqb-false (keyAt a (keySegment a key) j) key
-          (first-none (λ i. eqb (keyAt a (keySegment a key) i) key) (window key) (c .missing) j m);
-      all-live = c .all-live;
-    }
+use Rattle.rules.specs.Put.{put}
+use Rattle.rules.proofs.Put.{KeyFull, choice-full, free-none, tests-number, Cases, put-induction}
 
 -- The window is full and the largest depth is reached.
 pub record TooDeepAt (a : List ℕ) (key : ℕ) : Type 0 where
-  pub window-full : FullWindow a key
+  pub window-full : KeyFull a key
   pub deepest : localDepth (keyEntry a key) ≡ maxDepth a
 
 -- The window is full, the segment could be split, and every segment is named.
 pub record NoSegmentAt (a : List ℕ) (key : ℕ) : Type 0 where
-  pub window-full : FullWindow a key
+  pub window-full : KeyFull a key
   pub local-room : localDepth (keyEntry a key) < maxDepth a
   pub all-named : (s : ℕ) → s < segments a → named a s ≡ true
 
@@ -73,13 +51,13 @@ explained key value =
       when-into = λ a j p c. record { five = λ x. absurd (not-done 5 x); six = λ x. absurd (not-done 6 x) };
       when-deep = λ a p c d.
           record {
-            five = λ x. record { window-full = full-window a key c; deepest = d };
+            five = λ x. record { window-full = choice-full a key c; deepest = d };
             six = λ x. absurd (omega (arith, refused-number 5 6 x));
           };
       when-none = λ a p c d f.
           record {
             five = λ x. absurd (omega (arith, refused-number 6 5 x));
-            six = λ x. record { window-full = full-window a key c; local-room = d; all-named = free-none a f };
+            six = λ x. record { window-full = choice-full a key c; local-room = d; all-named = free-none a f };
           };
       when-split = λ a n p c f s rest.
           record {

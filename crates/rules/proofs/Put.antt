@@ -26,7 +26,7 @@ use Rattle.rules.specs.Split.{splitting}
 use Rattle.rules.specs.Put.{directoryTests, putTests, keyChoice, placed, intoFree, putUnused, unused, put}
 use Rattle.rules.proofs.Words.{ValidHeader, valid-header}
 use Rattle.rules.proofs.Keys.{index-lt}
-use Rattle.rules.proofs.Slots.{IntoSlot, FullOfOthers, choose-found, choose-into, choose-full}
+use Rattle.rules.proofs.Slots.{IntoSlot, FullWindow, found-by-choose, into-by-choose, full-by-choose}
 use Rattle.rules.proofs.Scan.{range-depth, range-segment, consistent-in-range}
 use Rattle.rules.proofs.Doubling.{entry-of-key}
 use Rattle.rules.proofs.Halving.{keyBits}
@@ -97,20 +97,20 @@ abbrev pub KeyInto : List ℕ → (key j : ℕ) → Type 0
 KeyInto a key j = IntoSlot a (keySegment a key) (localDepth (keyEntry a key)) (keyBits a key) key j
 
 abbrev pub KeyFull : List ℕ → (key : ℕ) → Type 0
-KeyFull a key = FullOfOthers a (keySegment a key) (localDepth (keyEntry a key)) (keyBits a key) key
+KeyFull a key = FullWindow a (keySegment a key) (localDepth (keyEntry a key)) (keyBits a key) key
 
 module _ (a : List ℕ) (key : ℕ) where
   pub choice-found : (j : ℕ) → keyChoice a key ≡ found j → keyHit a key ≡ some j
   unfolding keyChoice
-  choice-found = choose-found a (keySegment a key) (localDepth (keyEntry a key)) (keyBits a key) key
+  choice-found = found-by-choose a (keySegment a key) (localDepth (keyEntry a key)) (keyBits a key) key
 
   pub choice-into : (j : ℕ) → keyChoice a key ≡ into j → KeyInto a key j
   unfolding keyChoice
-  choice-into = choose-into a (keySegment a key) (localDepth (keyEntry a key)) (keyBits a key) key
+  choice-into = into-by-choose a (keySegment a key) (localDepth (keyEntry a key)) (keyBits a key) key
 
   pub choice-full : keyChoice a key ≡ full → KeyFull a key
   unfolding keyChoice
-  choice-full = choose-full a (keySegment a key) (localDepth (keyEntry a key)) (keyBits a key) key
+  choice-full = full-by-choose a (keySegment a key) (localDepth (keyEntry a key)) (keyBits a key) key
 
 -- ---- The free segment
 

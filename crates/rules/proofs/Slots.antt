@@ -9,14 +9,14 @@ use mathlib.Core.Option.{Option, none, some, orElse}
 use mathlib.Mathlib.Data.Option.Basic.{orElse-eq-some, orElse-eq-none}
 use Prim.Native.Nat.{ℕ}
 use native.Mathlib.Omega.{arith}
-use borrow.Author.Tests.{eqb-true, not-true, not-false}
+use borrow.Author.Tests.{eqb-true, eqb-false, not-true, not-false}
 use lib.Dec.{eqb}
 use Rattle.stores.specs.Lists.{firstIn}
 use Rattle.stores.proofs.Tests.{and-right}
 use Rattle.stores.proofs.Lists.{first-same, first-some, first-none}
 use Rattle.rules.specs.Layout.{keyAt}
 use Rattle.rules.specs.Keys.{live, window}
-use Rattle.rules.specs.Slots.{hit, isEmpty, isStale, slotForNew, found, into, full, chosen, choose}
+use Rattle.rules.specs.Slots.{hit, isEmpty, isStale, slotForNew, Choice, found, into, full, chosen, choose}
 use Rattle.rules.proofs.Keys.{live-empty}
 
 -- ---- The slot for a new key: there is one exactly where some slot of the window is not live
@@ -78,70 +78,60 @@ pub record IntoSlot (a : List ℕ) (base L bits key j : ℕ) : Type 0 where
   pub in-window : List·Memᴰ j (window key)
   pub not-live : live L bits (keyAt a base j) ≡ false
 
--- The window is full: no slot of it has the key, and each is live.
-pub record FullOfOthers (a : List ℕ) (base L bits key : ℕ) : Type 0 where
-  pub missing : hit a base key ≡ none
+-- Every slot of the key's probe window has another key, which is live there.
+pub record FullWindow (a : List ℕ) (base L bits key : ℕ) : Type 0 where
+  pub others : (j : ℕ) → List·Memᴰ j (window key) → keyAt a base j ≡ key → ⊥
   pub all-live : (j : ℕ) → List·Memᴰ j (window key) → live L bits (keyAt a base j) ≡ true
+
+-- Two choices are told apart by their kinds and by their slots.
+abbrev kind : Choice → ℕ
+kind (found j) = 0
+kind (into j) = 1
+kind full = 2
+
+abbrev slotIn : Choice → ℕ
+slotIn (found j) = j
+slotIn (into j) = j
+slotIn full = 0
 
 chosen-full : (h n : Option ℕ) → chosen h n ≡ full → (h ≡ none) × (n ≡ none)
 unfolding chosen
-chosen-full (some j) n e = absurd (never j e)
-  where
-    never : (j : ℕ) → found j ≡ full → ⊥
-    never j p = let z : _≡_ {A = ℕ} 0 1 = cc in omega arith
-chosen-full none (some j) e = absurd (never j e)
-  where
-    never : (j : ℕ) → into j ≡ full → ⊥
-    never j p = let z : _≡_ {A = ℕ} 0 1 = cc in omega arith
+chosen-full (some j) n e = absurd (omega (arith, ap kind e))
+chosen-full none (some j) e = absurd (omega (arith, ap kind e))
 chosen-full none none e = (refl, refl)
 
 chosen-found : (h n : Option ℕ) (j : ℕ) → chosen h n ≡ found j → h ≡ some j
 unfolding chosen
-chosen-found (some i) n j e = ap some (inj i e)
-  where
-    inj : (i : ℕ) → found i ≡ found j → i ≡ j
-    inj i p = cc
-chosen-found none (some i) j e = absurd (never i e)
-  where
-    never : (i : ℕ) → into i ≡ found j → ⊥
-    never i p = let z : _≡_ {A = ℕ} 0 1 = cc in omega arith
-chosen-found none none j e = absurd (never e)
-  where
-    never : full ≡ found j → ⊥
-    never p = let z : _≡_ {A = ℕ} 0 1 = cc in omega arith
+chosen-found (some i) n j e = ap (λ (c : Choice). some (slotIn c)) e
+chosen-found none (some i) j e = absurd (omega (arith, ap kind e))
+chosen-found none none j e = absurd (omega (arith, ap kind e))
 
 chosen-into : (h n : Option ℕ) (j : ℕ) → chosen h n ≡ into j → (h ≡ none) × (n ≡ some j)
 unfolding chosen
-chosen-into (some i) n j e = absurd (never i e)
-  where
-    never : (i : ℕ) → found i ≡ into j → ⊥
-    never i p = let z : _≡_ {A = ℕ} 0 1 = cc in omega arith
-chosen-into none (some i) j e = (refl, ap some (inj i e))
-  where
-    inj : (i : ℕ) → into i ≡ into j → i ≡ j
-    inj i p = cc
-chosen-into none none j e = absurd (never e)
-  where
-    never : full ≡ into j → ⊥
-    never p = let z : _≡_ {A = ℕ} 0 1 = cc in omega arith
+chosen-into (some i) n j e = absurd (omega (arith, ap kind e))
+chosen-into none (some i) j e = (refl, ap (λ (c : Choice). some (slotIn c)) e)
+chosen-into none none j e = absurd (omega (arith, ap kind e))
 
 module _ (a : List ℕ) (base L bits key : ℕ) where
-  pub choose-found : (j : ℕ) → choose a base L bits key ≡ found j → hit a base key ≡ some j
+  pub found-by-choose : (j : ℕ) → choose a base L bits key ≡ found j → hit a base key ≡ some j
   unfolding choose
-  choose-found j e = chosen-found (hit a base key) (slotForNew a base L bits key) j e
+  found-by-choose j e = chosen-found (hit a base key) (slotForNew a base L bits key) j e
 
-  pub choose-into : (j : ℕ) → choose a base L bits key ≡ into j → IntoSlot a base L bits key j
+  pub into-by-choose : (j : ℕ) → choose a base L bits key ≡ into j → IntoSlot a base L bits key j
   unfolding choose
-  choose-into j e =
+  into-by-choose j e =
       let c = chosen-into (hit a base key) (slotForNew a base L bits key) j e in
       let slot = new-slot a base L bits key j (c .1) in
       record { missing = c .0; in-window = slot .0; not-live = slot .1 }
 
-  pub choose-full : choose a base L bits key ≡ full → FullOfOthers a base L bits key
-  unfolding choose
-  choose-full e =
+  pub full-by-choose : choose a base L bits key ≡ full → FullWindow a base L bits key
+  unfolding choose hit
+  full-by-choose e =
       let c = chosen-full (hit a base key) (slotForNew a base L bits key) e in
-      record { missing = c .0; all-live = no-new-slot a base L bits key (c .1) }
+      record {
+        others = λ j m. eqb-false (keyAt a base j) key (first-none (λ i. eqb (keyAt a base i) key) (window key) (c .0) j m);
+        all-live = no-new-slot a base L bits key (c .1);
+      }
 
 -- ---- Hit and choice go by the keys of the window alone, wherever the segment stands
 
