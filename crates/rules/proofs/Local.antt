@@ -2,7 +2,7 @@
 -- Assumes nothing.
 use mathlib.Core.Path.{_≡_, refl, sym, ap, ap₂, _∙_}
 use mathlib.Core.Bool.{Bool, true, false, not, true≢false}
-use mathlib.Core.List.{List, [], _∷_, _++_, List·Memᴰ}
+use mathlib.Core.List.{List, [], _∷_, _++_}
 use mathlib.Core.Option.{Option, none, some}
 use mathlib.Core.Logic.{⊎-elim}
 use Prim.Native.Nat.{ℕ, zero, suc, _+_, _/_, _^_, _≤_, _<_}
@@ -23,7 +23,7 @@ use Rattle.replies.specs.declared.Refusal.the-variants.{NoStore, NoKey, Broken,
 use Rattle.rules.specs.declared.Call.{Call}
 use Rattle.rules.specs.declared.Call.the-variants.{Format, Get, Put, Remove, Mend, List as ListCall}
 use Rattle.rules.specs.Layout.{header, depth, maxDepth, segments, wordsFor, validHeader, entryAddress, entryAt, segmentOf, localDepth, segmentAddress, keyAddress, valueAddress, keyAt, valueAt}
-use Rattle.rules.specs.Keys.{index, blockBits, window}
+use Rattle.rules.specs.Keys.{index, blockBits}
 use Rattle.rules.specs.Scan.{inRange, validLeader, nextLeader, leader, leadingEntry, leadersValid, entriesAgree}
 use Rattle.rules.specs.Slots.{hit, Choice, found, into, full, choose, named, freeSegment}
 use Rattle.replies.specs.Replies.{Said, unless, tested, replied, changed}
@@ -36,7 +36,7 @@ use Rattle.rules.specs.Mend.{mendTests, mendEntry, mending, mend}
 use Rattle.rules.specs.Listing.{liveRecord, blockRecords, records, listTests, list}
 use Rattle.rules.specs.Step.{Effect, changes, answers, effect, carriedOut, step, lists}
 use Rattle.rules.proofs.Words.{ValidHeader, valid-header, header-valid, entry-inside, directories-below}
-use Rattle.rules.proofs.Keys.{index-lt, window-lt}
+use Rattle.rules.proofs.Keys.{index-lt}
 use Rattle.rules.proofs.Slots.{hit-same, choose-same}
 use Rattle.rules.proofs.Scan.{range-segment, leader-le, valid-at-segment}
 use Rattle.rules.proofs.Put.{unless-none, Passed, passed, put-refused, put-found, put-into, put-too-deep, put-no-segment, put-again, Cases, put-induction}
@@ -139,14 +139,11 @@ module _ {a b : List ℕ} (s : Agree a b) where
     value-same : (j : ℕ) → j < 64 → valueAt a base j ≡ valueAt b base j
     value-same j h = s .words-same (valueAddress base j) (omega arith)
 
-    window-same : (key j : ℕ) → List·Memᴰ j (window key) → keyAt a base j ≡ keyAt b base j
-    window-same key j m = key-same j (window-lt key j m)
-
     hit-local : (key : ℕ) → hit a base key ≡ hit b base key
-    hit-local key = hit-same a b base base key (window-same key)
+    hit-local key = hit-same a b base base key-same key
 
     choose-local : (L bits key : ℕ) → choose a base L bits key ≡ choose b base L bits key
-    choose-local L bits key = choose-same a b base base key (window-same key) L bits
+    choose-local L bits key = choose-same a b base base key-same key L bits
 
     value-hit-same : (key : ℕ) → valueAtHit a base (hit a base key) ≡ valueAtHit b base (hit b base key)
     unfolding valueAtHit

@@ -7,7 +7,7 @@ use mathlib.Core.List.{List, List·Memᴰ}
 use mathlib.Core.Logic.{⊎-elim}
 use mathlib.Core.Option.{Option, none, some, orElse}
 use mathlib.Mathlib.Data.Option.Basic.{orElse-eq-some, orElse-eq-none}
-use Prim.Native.Nat.{ℕ}
+use Prim.Native.Nat.{ℕ, _<_}
 use native.Mathlib.Omega.{arith}
 use borrow.Author.Tests.{eqb-true, eqb-false, not-true, not-false}
 use lib.Dec.{eqb}
@@ -17,7 +17,7 @@ use Rattle.stores.proofs.Lists.{first-same, first-some, first-none}
 use Rattle.rules.specs.Layout.{keyAt}
 use Rattle.rules.specs.Keys.{live, window}
 use Rattle.rules.specs.Slots.{hit, isEmpty, isStale, slotForNew, Choice, found, into, full, chosen, choose}
-use Rattle.rules.proofs.Keys.{live-empty}
+use Rattle.rules.proofs.Keys.{live-empty, window-lt}
 
 -- ---- The slot for a new key: there is one exactly where some slot of the window is not live
 
@@ -133,21 +133,21 @@ module _ (a : List ℕ) (base L bits key : ℕ) where
         all-live = no-new-slot a base L bits key (c .1);
       }
 
--- ---- Hit and choice go by the keys of the window alone, wherever the segment stands
+-- ---- Hit and choice go by the segment's keys alone, wherever it stands
 
-module _ (a b : List ℕ) (base base′ key : ℕ) (same : (j : ℕ) → List·Memᴰ j (window key) → keyAt a base j ≡ keyAt b base′ j) where
+module _ (a b : List ℕ) (base base′ : ℕ) (same : (j : ℕ) → j < 64 → keyAt a base j ≡ keyAt b base′ j) (key : ℕ) where
   pub hit-same : hit a base key ≡ hit b base′ key
   unfolding hit
   hit-same =
       first-same (λ j. eqb (keyAt a base j) key) (λ j. eqb (keyAt b base′ j) key) (window key)
-      (λ j m. rw (same j m))
+      (λ j m. rw (same j (window-lt key j m)))
 
   new-same : (L bits : ℕ) → slotForNew a base L bits key ≡ slotForNew b base′ L bits key
   unfolding slotForNew isEmpty isStale
   new-same L bits =
       ap₂ orElse
-      (first-same (isEmpty a base) (isEmpty b base′) (window key) (λ j m. rw (same j m)))
-      (first-same (isStale a base L bits) (isStale b base′ L bits) (window key) (λ j m. rw (same j m)))
+      (first-same (isEmpty a base) (isEmpty b base′) (window key) (λ j m. rw (same j (window-lt key j m))))
+      (first-same (isStale a base L bits) (isStale b base′ L bits) (window key) (λ j m. rw (same j (window-lt key j m))))
 
   pub choose-same : (L bits : ℕ) → choose a base L bits key ≡ choose b base′ L bits key
   unfolding choose

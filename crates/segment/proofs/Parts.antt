@@ -1,7 +1,7 @@
 -- A segment lent as a part of the array, against the same segment in the whole.
 -- Assumes nothing.
 use mathlib.Core.Path.{_≡_, ap, _∙_}
-use mathlib.Core.List.{List, List·Memᴰ}
+use mathlib.Core.List.{List}
 use Prim.Native.Nat.{ℕ, _+_, _-_, _*_, _≤_, _<_}
 use native.Mathlib.Nat.{zero-add}
 use native.Mathlib.Omega.{arith}
@@ -12,10 +12,8 @@ use Rattle.stores.specs.Lists.{each}
 use Rattle.stores.proofs.Lists.{each-same}
 use Rattle.rules.specs.Layout.{keyAt, valueAt}
 use Rattle.segment.specs.Slot.{segmentIn}
-use Rattle.rules.specs.Keys.{window}
 use Rattle.rules.specs.Slots.{hit, choose}
 use Rattle.rules.specs.Listing.{liveRecord}
-use Rattle.rules.proofs.Keys.{window-lt}
 use Rattle.rules.proofs.Slots.{hit-same, choose-same}
 
 -- A part of 128 words by its start and its end.
@@ -39,14 +37,11 @@ module _ (a : List ℕ) (base : ℕ) (fits : base + 128 ≤ length a) where
 
   -- ---- The search and the choice of a slot
 
-  window-key : (key j : ℕ) → List·Memᴰ j (window key) → keyAt (segmentIn a base) 0 j ≡ keyAt a base j
-  window-key key j m = part-key j (window-lt key j m)
-
   pub part-hit : (key : ℕ) → hit (segmentIn a base) 0 key ≡ hit a base key
-  part-hit key = hit-same (segmentIn a base) a 0 base key (window-key key)
+  part-hit key = hit-same (segmentIn a base) a 0 base part-key key
 
   pub part-choose : (L bits key : ℕ) → choose (segmentIn a base) 0 L bits key ≡ choose a base L bits key
-  part-choose L bits key = choose-same (segmentIn a base) a 0 base key (window-key key) L bits
+  part-choose L bits key = choose-same (segmentIn a base) a 0 base part-key key L bits
 
   -- ---- Live records
 
