@@ -128,6 +128,37 @@ void mend(benchmark::State &state) {
     for (auto _ : state) peer.mend();
 }
 
+// The year that is printed, and the keys of its jobs in the order of the print.
+constexpr word year = 2026, first_job = year * 65536 + 4096, behind_jobs = year * 65536 + 13 * 4096;
+
+// A board with every job of the year, each with pages of five digits, kept from one benchmark to the next.
+template <class Peer>
+Peer &full_year() {
+    static std::unique_ptr<Peer> peer;
+    if (!peer) {
+        peer = std::make_unique<Peer>();
+        for (word key = first_job; key < behind_jobs; key++) must(peer->put(key, 10000 + key * 7919 % 90000) == 0, "set of a job");
+    }
+    return *peer;
+}
+
+template <class Peer>
+void print_year(benchmark::State &state) {
+    Peer &peer = full_year<Peer>();
+    Bytes out(1 << 20);
+    for (auto _ : state) benchmark::DoNotOptimize(peer.print(year, out));
+    state.counters["bytes"] = double(peer.print(year, out));
+}
+
+// The gets of such a print: every job twice.
+void gets_of_year(benchmark::State &state) {
+    const Ours &ours = full_year<Ours>();
+    for (auto _ : state)
+        for (int pass = 0; pass < 2; pass++)
+            for (word key = first_job; key < behind_jobs; key++)
+                benchmark::DoNotOptimize(page_index_get(ours.words.data(), ours.words.size(), key));
+}
+
 // An index whose directory has the depth asked for, with running numbers.
 template <class Peer>
 Peer at_depth(word depth, word &pages) {
@@ -244,6 +275,7 @@ void add_scheme() {
     add<Peer>("mend", mend<Peer>);
     add<Peer>("put with a split", put_with_split<Peer>);
     add<Peer>("worst put", worst_put<Peer>);
+    add<Peer>("print of a full year", print_year<Peer>);
     for (int depth = 0; depth <= 12; depth++) {
         add<Peer>("get at depth", get_at_depth<Peer>)->Arg(depth);
         add<Peer>("put at depth", put_at_depth<Peer>)->Arg(depth);
@@ -267,6 +299,7 @@ int main(int count, char **arguments) {
     add_scheme<Ours>();
     add_scheme<Twin>();
     benchmark::RegisterBenchmark("worst put/linear", linear_copy);
+    benchmark::RegisterBenchmark("gets of a full year/ours", gets_of_year);
     benchmark::RunSpecifiedBenchmarks();
     return 0;
 }

@@ -1,6 +1,6 @@
 // The indexes that are measured side by side, each behind put, get and remove.
 #pragma once
-#include "../bindings/c/page_index.h"
+#include "../bindings/c/month_board.h"
 #include "../tests/twin/twin.hpp"
 
 #include <absl/container/flat_hash_map.h>
@@ -21,6 +21,7 @@
 
 using word = std::uint64_t;
 using Words = std::vector<word>;
+using Bytes = std::vector<std::uint8_t>;
 
 constexpr std::uint32_t all = 0xffffffff;
 // The cabinet: 4 MiB of words, D = 12, S = 4,032.
@@ -62,6 +63,7 @@ class Ours {
     void remove(word key) { page_index_remove(words.data(), words.size(), key, all); }
     word list(Words &out) const { return page_index_list(words.data(), words.size(), out.data(), out.size()).value; }
     void mend() { page_index_mend(words.data(), words.size(), all); }
+    word print(word year, Bytes &out) const { return month_board_print(words.data(), words.size(), year, out.data(), out.size()).value; }
     std::size_t bytes() const { return 8 * words.size(); }
 
     Words words;
@@ -88,6 +90,7 @@ class Twin {
     void remove(word key) { remove_call(words.data(), words.size(), key); }
     word list(Words &out) const { return list_call(const_cast<word *>(words.data()), words.size(), out.data(), out.size()).value; }
     void mend() { mend_call(words.data(), words.size()); }
+    word print(word year, Bytes &out) const { return print_call(const_cast<word *>(words.data()), words.size(), year, out).value; }
     std::size_t bytes() const { return 8 * words.size(); }
 
     [[gnu::noinline]] static twin::Answer put_call(word *w, std::size_t n, word key, word value) {
@@ -101,6 +104,9 @@ class Twin {
         return twin::Index<>(w, n).list(out, room);
     }
     [[gnu::noinline]] static twin::Answer mend_call(word *w, std::size_t n) { return twin::Index<>(w, n).mend(all); }
+    [[gnu::noinline]] static twin::Answer print_call(word *w, std::size_t n, word year, Bytes &out) {
+        return twin::Board<>(w, n).print(year, out.data(), out.size());
+    }
 
     Words words;
     std::uint32_t stores = 0;

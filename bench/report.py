@@ -16,8 +16,10 @@ PEERS = ["twin", "flat_hash_map", "unordered_map", "linear", "lmdb", "tkrzw", "s
 WORK = [
     "get hit, running", "get hit, random", "get miss, running", "overwrite, running", "overwrite, random",
     "put of a new page, running", "put of a new page, random", "remove, running", "remove, random", "fill, running", "fill, random", "list", "mend",
-    "put with a split", "worst put",
+    "put with a split", "worst put", "print of a full year",
 ]
+# What a print of a full year may take, in times of its gets.
+MOST_GETS = 2
 
 
 def read_times(path):
@@ -74,6 +76,15 @@ def time_table(times):
         cells = [times.get((what, peer, None)) for peer in ["ours"] + PEERS]
         rows.append(f"| {what} | " + " | ".join(shown(statistics.median(c)) if c else "" for c in cells) + " |")
     return "\n".join(rows)
+
+
+def print_table(times):
+    """The print of a full year against its gets, and whether it takes no longer than it may."""
+    print_times, get_times = times["print of a full year", "ours", None], times["gets of a full year", "ours", None]
+    middle, least, most = ratio(print_times, get_times)
+    shown_times = " | ".join(shown(statistics.median(found)) for found in (print_times, get_times))
+    rows = ["| print | its gets | print / gets |", "|---|---|---|", f"| {shown_times} | {plain(middle)} ({plain(least)} to {plain(most)}) |"]
+    return "\n".join(rows), middle <= MOST_GETS
 
 
 def read_counts(path):
@@ -156,14 +167,18 @@ def main(folder, repetitions):
     plot(folder, times, "depth", "get and put over the directory depth", ("directory depth", "nanoseconds", "set logscale y;"), depth, 1e-9)
     fills = [(peer, "fill pages", peer) for peer in ("ours", "twin")]
     plot(folder, times, "fill", "fill with running numbers", ("pages", "milliseconds", ""), fills, 1e-3)
+    printed, quick_enough = print_table(times)
     text = (HERE / "RESULTS.template.md").read_text()
     for mark, value in {
         "@command@": "bench/run", "@repetitions@": str(repetitions), "@processors@": str(machine["num_cpus"]),
         "@mhz@": str(machine["mhz_per_cpu"]), "@ratios@": ratio_table(times), "@times@": time_table(times), "@counts@": count_table(counts),
         "@instructions@": instruction_table(folder / "instructions.txt"), "@desk@": desk_table(root), "@worst@": counts["worst", "stores"], "@memory@": memory_table(counts),
+        "@print@": printed, "@most_gets@": str(MOST_GETS),
     }.items():
         text = text.replace(mark, value)
     (HERE / "RESULTS.md").write_text(text)
+    if not quick_enough:
+        sys.exit(f"the print of a full year takes more than {MOST_GETS} times its gets")
 
 
 if __name__ == "__main__":

@@ -30,7 +30,7 @@
 extern "C" {
 #endif
 
-/* The code of an answer. */
+/* The code of an answer. The board is that of month_board.h. */
 enum page_index_code {
     PAGE_INDEX_DONE = 0,
     PAGE_INDEX_NO_STORE = 1,   /* word 0 is not that of an index, or the array is too short for it */
@@ -42,12 +42,16 @@ enum page_index_code {
     PAGE_INDEX_CUT_OFF = 7,    /* more stores were due than allowed */
     PAGE_INDEX_BAD_SHAPE = 8,  /* format: depth not 2 to 12, or segments not 1 to 2^depth */
     PAGE_INDEX_TOO_SHORT = 9,  /* format: fewer than 2^(depth + 1) + 128 * segments words */
-    PAGE_INDEX_SHORT_LIST = 10, /* list: the list array has fewer than two words for each record */
+    PAGE_INDEX_SHORT_LIST = 10, /* list: the list array has fewer than two words for each record;
+                                   print, of the board: the buffer is shorter than the lines */
+    PAGE_INDEX_BAD_YEAR = 11,   /* given by the board alone: the year is not 1 to 9999 */
+    PAGE_INDEX_BAD_MONTH = 12,  /* given by the board alone: the month is not 1 to 12 */
+    PAGE_INDEX_BAD_NUMBER = 13, /* given by the board alone: the job number is not 0 to 4095 */
     PAGE_INDEX_ABSENT = 255    /* get and remove: the key is not there */
 };
 
 /*
- * An answer. `stores` is the number of stores made in the array: 0 after the codes 1 to 4, 8 to 10 and
+ * An answer. `stores` is the number of stores made in the array: 0 after the codes 1 to 4, 8 to 13 and
  * 255, and after every get and list. `value` is what a get found, or how many records a list wrote;
  * else 0.
  */

@@ -1,11 +1,12 @@
-// Power cuts for real. A child process makes calls on an index in a memory-mapped file and writes
-// each call to a pipe before it begins and after it was answered. The parent kills it at a random
-// moment, maps the file again, mends, and checks every key against the acknowledged calls; the call
-// in flight may have happened or not. Built with -DFAULT=NAME it runs the twin with that fault in
-// the place of the library, and must find pages lost or invented, or an index that cannot be mended.
+// Power cuts for real. A child process makes calls of the index and of the month board on an index in a
+// memory-mapped file and writes each call to a pipe before it begins and after it was answered. The
+// parent kills it at a random moment, maps the file again, mends, and checks every key and the lines of
+// a year against the acknowledged calls; the call in flight may have happened or not. Built with
+// -DFAULT=NAME it runs the twin with that fault in the place of the library, and must find pages lost
+// or invented, or an index that cannot be mended.
 //
 //     cuts FILE SEED
-#include "../../bindings/c/page_index.h"
+#include "../../bindings/c/month_board.h"
 #include "../twin/twin.hpp"
 
 #include <fcntl.h>
@@ -33,7 +34,7 @@ using Words = std::vector<word>;
 constexpr word depth = 12, segments = 64;
 constexpr std::size_t size = (2u << depth) + 128 * segments;
 constexpr std::uint32_t all = 0xffffffff;
-constexpr int wanted_kills = 1000, wanted_inside = 100, wanted_mends = 30, most_kills = 20000;
+constexpr int wanted_kills = 1000, wanted_inside = 100, wanted_by_board = 50, wanted_mends = 30, most_kills = 20000;
 
 void fail(const char *what) {
     std::perror(what);
@@ -60,17 +61,40 @@ struct Message {
     word kind, key, value, answered;
 };
 
-constexpr word put = 1, take = 2;
+// A put and a remove of the index, the same of a job by the board, and a print of the job's year.
+constexpr word put = 1, take = 2, set_job = 3, take_job = 4, print = 5;
+
+bool by_board(const Message &m) { return m.kind >= set_job; }
+
+twin::Job job_of(word key) { return {key >> 16, key >> 12 & 15, key & 4095}; }
+
+bool is_job(word key) { return twin::refusal_of(job_of(key)) == twin::done; }
+
+// Room for the lines of a year.
+unsigned char lines[1 << 16];
+
+// The call by the twin.
+template <class Log, twin::Fault fault>
+void make_by_twin(word *words, const Message &m, Log log) {
+    twin::Index<Log, fault> index(words, size, log);
+    twin::Board<Log, fault> board(words, size, log);
+    if (m.kind == put) index.put(m.key, m.value, all);
+    if (m.kind == take) index.remove(m.key, all);
+    if (m.kind == set_job) board.set(job_of(m.key), m.value, all);
+    if (m.kind == take_job) board.remove(job_of(m.key), all);
+    if (m.kind == print) board.print(job_of(m.key).year, lines, sizeof lines);
+}
 
 #ifdef FAULT
-using Faulty = twin::Index<twin::NoLog, twin::Fault::FAULT>;
-std::uint32_t make(word *words, const Message &m) {
-    Faulty index(words, size);
-    return (m.kind == put ? index.put(m.key, m.value, all) : index.remove(m.key, all)).code;
-}
+void make(word *words, const Message &m) { make_by_twin<twin::NoLog, twin::Fault::FAULT>(words, m, {}); }
 #else
-std::uint32_t make(word *words, const Message &m) {
-    return (m.kind == put ? page_index_put(words, size, m.key, m.value, all) : page_index_remove(words, size, m.key, all)).code;
+void make(word *words, const Message &m) {
+    twin::Job job = job_of(m.key);
+    if (m.kind == put) page_index_put(words, size, m.key, m.value, all);
+    if (m.kind == take) page_index_remove(words, size, m.key, all);
+    if (m.kind == set_job) month_board_set(words, size, job.year, job.month, job.number, m.value, all);
+    if (m.kind == take_job) month_board_remove(words, size, job.year, job.month, job.number, all);
+    if (m.kind == print) month_board_print(words, size, job.year, lines, sizeof lines);
 }
 #endif
 
@@ -82,21 +106,20 @@ struct Log {
 
 std::vector<std::pair<std::size_t, word>> stores_of(Words words, const Message &m) {
     std::vector<std::pair<std::size_t, word>> stores;
-    twin::Index<Log> index(words.data(), words.size(), Log{&stores});
-    if (m.kind == put)
-        index.put(m.key, m.value, all);
-    else
-        index.remove(m.key, all);
+    make_by_twin<Log, twin::Fault::none>(words.data(), m, Log{&stores});
     return stores;
 }
 
 using Table = std::map<word, word>;
 
-// An index to begin from, what it holds, and the puts that split its segments.
+// The year whose lines are looked at.
+constexpr word year = 2026;
+
+// An index to begin from, what it holds, and the jobs that split its segments.
 struct Scene {
     Words image = Words(size, 0);
     Table table;
-    std::vector<word> splitting;
+    std::vector<word> splitting, jobs;
     double longest = 0;
     cpu_set_t processors;
 
@@ -113,6 +136,10 @@ struct Scene {
         for (word h = 0; h < 4; h++)
             for (word b = 0; b < 16; b++) add(h * 65536 + 0xfff0 + b, 1000 + b);
         add(5 * 65536 + 0x7ff0, 7);
+        for (word month = 1; month <= 12; month++) {
+            jobs.push_back(twin::key_of({year, month, 0x1f0 + month}));
+            add(jobs.back(), 100 * month);
+        }
     }
 };
 
@@ -133,7 +160,7 @@ Scene many_splits() {
 Scene one_split() {
     Scene scene;
     for (int k = 0; k < 2; k++) {
-        word bits = (1u << 20) + (16u << k) - 16;
+        word bits = twin::key_of({16, 1, (16u << k) - 16});
         for (word h = 0; h < 4; h++)
             for (word b = 0; b < 16; b++) scene.add(bits + (h << (k + 5)) + b, 100 * k + b);
         scene.splitting.push_back(bits + (4u << (k + 5)));
@@ -141,8 +168,9 @@ Scene one_split() {
     return scene;
 }
 
-// The calls of one child: the puts that split, in some order, each with smaller calls behind it.
-constexpr std::size_t group = 4;
+// The calls of one child: those that split, in some order, by the index or by the board, each with smaller
+// calls behind it.
+constexpr std::size_t group = 7;
 
 std::vector<Message> work(const Scene &scene, std::mt19937_64 &random) {
     std::vector<word> keys;
@@ -151,10 +179,14 @@ std::vector<Message> work(const Scene &scene, std::mt19937_64 &random) {
     std::shuffle(order.begin(), order.end(), random);
     std::vector<Message> calls;
     for (word key : order) {
-        calls.push_back({put, key, random(), 0});
+        word known = scene.jobs[random() % 12];
+        calls.push_back({random() % 2 ? put : set_job, key, random(), 0});
         calls.push_back({put, keys[random() % keys.size()], random(), 0});
         calls.push_back({take, keys[random() % keys.size()], 0, 0});
         calls.push_back({put, 3 + 16 * (random() % 512), random(), 0});
+        calls.push_back({set_job, twin::key_of({year, 1 + random() % 12, random() % 4096}), random(), 0});
+        calls.push_back({take_job, scene.jobs[random() % 12], 0, 0});
+        calls.push_back({random() % 8 ? set_job : print, known, random(), 0});
     }
     return calls;
 }
@@ -192,8 +224,8 @@ double now() {
 }
 
 struct Counts {
-    int kills = 0, in_call = 0, inside = 0, mends = 0;
-    long acknowledged = 0, checked = 0, lost = 0, invented = 0, other_stores = 0, unmendable = 0;
+    int kills = 0, in_call = 0, inside = 0, mends = 0, inside_board = 0;
+    long acknowledged = 0, by_board = 0, checked = 0, lost = 0, invented = 0, other_stores = 0, unmendable = 0, other_lines = 0;
 };
 
 // What the pipe has said so far.
@@ -235,17 +267,33 @@ bool is_prefix(const Words &before, const word *file, const Message &m, bool &in
 }
 
 void record(Table &table, const Message &m) {
-    if (m.kind == put)
-        table[m.key] = m.value;
-    else
-        table.erase(m.key);
+    if (m.kind == put || m.kind == set_job) table[m.key] = m.value;
+    if (m.kind == take || m.kind == take_job) table.erase(m.key);
+}
+
+// A job is looked up by the board.
+page_index_reply look_up(const word *file, word key) {
+    twin::Job job = job_of(key);
+    return is_job(key) ? month_board_read(file, size, job.year, job.month, job.number) : page_index_get(file, size, key);
+}
+
+// The lines of the year, from a table whose keys rise.
+std::string lines_of(const Table &table) {
+    static const char *const names[] = {"Jan", "Feb", "Mar", "Apr", "May", "Jun", "Jul", "Aug", "Sep", "Oct", "Nov", "Dec"};
+    std::string text;
+    for (const auto &[key, pages] : table) {
+        twin::Job job = job_of(key);
+        if (job.year != year || !is_job(key)) continue;
+        text += std::string(names[job.month - 1]) + '\t' + std::to_string(job.number) + '\t' + std::to_string(pages) + '\n';
+    }
+    return text;
 }
 
 // Every key that was ever used, against the table before the call in flight or after it.
 void check(const word *file, const Table &before, const Table &after, const Table &used, Counts &counts) {
     for (const auto &[key, unused] : used) {
         (void)unused;
-        page_index_reply got = page_index_get(file, size, key);
+        page_index_reply got = look_up(file, key);
         auto says = [&](const Table &table) {
             auto at = table.find(key);
             if (at == table.end()) return got.code == PAGE_INDEX_ABSENT;
@@ -255,6 +303,9 @@ void check(const word *file, const Table &before, const Table &after, const Tabl
         if (says(before) || says(after)) continue;
         (before.count(key) ? counts.lost : counts.invented)++;
     }
+    page_index_reply got = month_board_print(file, size, year, lines, sizeof lines);
+    std::string text(reinterpret_cast<char *>(lines), got.value);
+    counts.other_lines += got.code != PAGE_INDEX_DONE || (text != lines_of(before) && text != lines_of(after));
 }
 
 // One child, one kill, one look at the file.
@@ -291,6 +342,7 @@ void cut(int fd, const Scene &scene, std::mt19937_64 &random, Counts &counts) {
     counts.kills++;
     counts.in_call += heard.in_flight;
     counts.acknowledged += long(heard.answered.size());
+    counts.by_board += std::count_if(heard.answered.begin(), heard.answered.end(), by_board);
 
     Words before = scene.image;
     Table told = scene.table, used = scene.table;
@@ -309,6 +361,7 @@ void cut(int fd, const Scene &scene, std::mt19937_64 &random, Counts &counts) {
         counts.other_stores++;
     }
     counts.inside += inside;
+    counts.inside_board += inside && by_board(heard.flying);
     page_index_reply mended = page_index_mend(words, size, all);
     counts.mends += mended.stores > 0;
     counts.unmendable += mended.code != PAGE_INDEX_DONE;
@@ -322,6 +375,10 @@ double measure(const Scene &scene) {
     double start = now();
     for (word key : scene.splitting) make(words.data(), {put, key, 1, 0});
     return 1.3 * (now() - start) / double(scene.splitting.size());
+}
+
+[[maybe_unused]] bool reached(const Counts &c) {
+    return c.kills >= wanted_kills && c.inside >= wanted_inside && c.inside_board >= wanted_by_board && c.mends >= wanted_mends;
 }
 
 }  // namespace
@@ -339,7 +396,7 @@ int main(int count, char **arguments) {
 #ifdef FAULT
         return c.lost + c.invented + c.unmendable < 10;
 #else
-        return c.kills < wanted_kills || c.inside < wanted_inside || c.mends < wanted_mends;
+        return !reached(c);
 #endif
     };
     while (c.kills < most_kills && wanted())
@@ -348,10 +405,11 @@ int main(int count, char **arguments) {
                 arguments[2], c.kills, c.in_call, c.inside, c.mends);
     std::printf("acknowledged calls %ld, lookups %ld: pages lost %ld, invented %ld, not mendable %ld, stores out of order %ld\n",
                 c.acknowledged, c.checked, c.lost, c.invented, c.unmendable, c.other_stores);
+    std::printf("of them by the board: acknowledged calls %ld, kills between the first and last store %d; printed years that differ %ld\n",
+                c.by_board, c.inside_board, c.other_lines);
 #ifdef FAULT
     return c.lost + c.invented + c.unmendable > 0 ? 0 : 1;
 #else
-    bool reached = c.kills >= wanted_kills && c.inside >= wanted_inside && c.mends >= wanted_mends;
-    return reached && c.lost + c.invented + c.unmendable + c.other_stores == 0 ? 0 : 1;
+    return reached(c) && c.lost + c.invented + c.unmendable + c.other_stores + c.other_lines == 0 ? 0 : 1;
 #endif
 }

@@ -1,8 +1,9 @@
 // The order of the compiled stores. Each call of the library runs in a child one instruction at a
 // time; after every instruction the parent looks for words of the array that have changed. The
 // changes, in the order seen, must be the stores of the defined plan (by the twin, which the
-// comparison tests hold against the rules) that change a word, one for each instruction.
-#include "../../bindings/c/page_index.h"
+// comparison tests hold against the rules) that change a word, one for each instruction. The calls that
+// make no store run at full speed on an array that cannot be written.
+#include "../../bindings/c/month_board.h"
 #include "../twin/twin.hpp"
 
 #include <sys/mman.h>
@@ -39,6 +40,8 @@ struct Log {
 using Logged = twin::Index<Log>;
 using KeyFirst = twin::Index<Log, twin::Fault::key_first>;
 using LeftToRight = twin::Index<Log, twin::Fault::entries_left_to_right>;
+using LoggedBoard = twin::Board<Log>;
+using KeyFirstBoard = twin::Board<Log, twin::Fault::key_first>;
 
 // One case: the array before the call, the call of the library, and the stores of the same call by
 // the twin. Where the twin has a fault, the two must differ.
@@ -123,11 +126,23 @@ Words junk() {
     return words;
 }
 
-// Sixteen keys that share their window, which is then full.
-Words full() {
+Words formatted() {
     Words words = junk();
     page_index_format(words.data(), size, 2, 4, all);
+    return words;
+}
+
+// Sixteen keys that share their window, which is then full.
+Words full() {
+    Words words = formatted();
     for (word i = 0; i < 16; i++) page_index_put(words.data(), size, 7 + 16 * i, 70 + i, all);
+    return words;
+}
+
+// The same with jobs of one month.
+Words full_board() {
+    Words words = formatted();
+    for (word i = 0; i < 16; i++) month_board_set(words.data(), size, 2026, 3, 7 + 16 * i, 70 + i, all);
     return words;
 }
 
@@ -163,9 +178,32 @@ Case fault_case(const char *name, const Words &before, word key) {
             [=](word *w, Log log) { Faulty(w, size, log).put(key, 1, all); }, true};
 }
 
+// A set of a job of March 2026 by the board.
+template <class Board = LoggedBoard>
+Case set_case(const char *name, const Words &before, word number, std::uint32_t allowance = all, bool differs = false) {
+    return {name, before, [=](word *w) { return month_board_set(w, size, 2026, 3, number, 1, allowance); },
+            [=](word *w, Log log) { Board(w, size, log).set({2026, 3, number}, 1, allowance); }, differs};
+}
+
+Case board_remove_case(const char *name, word month) {
+    return {name, full_board(), [=](word *w) { return month_board_remove(w, size, 2026, month, 39, all); },
+            [=](word *w, Log log) { LoggedBoard(w, size, log).remove({2026, month, 39}, all); }};
+}
+
+std::vector<Case> board_cases() {
+    return {
+        set_case("board: set of a new job", formatted(), 7),
+        set_case("board: set of a known job", full_board(), 23),
+        set_case("board: set with a split and a doubling", full_board(), 263),
+        set_case("board: set, 60 stores allowed", full_board(), 263, 60),
+        set_case("board: set of a bad number", full_board(), 4096 + 23),
+        board_remove_case("board: remove", 3),
+        board_remove_case("board: remove of a bad month", 13),
+        set_case<KeyFirstBoard>("board: against the key stored first", formatted(), 7, all, true),
+    };
+}
+
 std::vector<Case> cases() {
-    Words formatted = junk();
-    page_index_format(formatted.data(), size, 2, 4, all);
     // Two splits of the block of directory bit 0, then the wide block of directory bit 1 full.
     Words wide = full();
     page_index_put(wide.data(), size, 263, 1, all);
@@ -174,7 +212,7 @@ std::vector<Case> cases() {
     return {
         format_case("format", all),
         format_case("format, 40 stores allowed", 40),
-        put_case("put of a new page", formatted, 7),
+        put_case("put of a new page", formatted(), 7),
         put_case("put of a known page", full(), 23),
         put_case("put with a split and a doubling", full(), 263),
         put_case("put with a split alone", wide, last),
@@ -185,9 +223,48 @@ std::vector<Case> cases() {
          [](word *w, Log log) { Logged(w, size, log).mend(all); }},
         {"get", full(), [](word *w) { return page_index_get(w, size, 39); },
          [](word *w, Log log) { Logged(w, size, log).get(39); }},
-        fault_case<KeyFirst>("against a twin that stores the key first", formatted, 7),
+        fault_case<KeyFirst>("against a twin that stores the key first", formatted(), 7),
         fault_case<LeftToRight>("against entries from left to right", full(), 263),
     };
+}
+
+// How a call ends on the words of a full board where none can be written.
+std::string unwritable(const char *name, word *shared, const std::function<page_index_reply(word *)> &call) {
+    Words before = full_board();
+    std::memcpy(shared, before.data(), size * sizeof(word));
+    pid_t pid = fork();
+    if (pid < 0) fail("fork");
+    if (pid == 0) {
+        if (mprotect(shared, size * sizeof(word), PROT_READ) != 0) fail("mprotect");
+        _exit(call(shared).code == PAGE_INDEX_DONE ? 0 : 1);
+    }
+    int status;
+    waitpid(pid, &status, 0);
+    std::string end = "ANOTHER ANSWER";
+    if (WIFEXITED(status) && WEXITSTATUS(status) == 0) end = "done";
+    if (WIFSIGNALED(status) && WTERMSIG(status) == SIGSEGV) end = "a store";
+    std::printf("%-40s on words that cannot be written: %s\n", name, end.c_str());
+    return end;
+}
+
+// The calls that make no store are done; one that makes a store is seen.
+bool readers_pass(word *shared) {
+    auto get = [](word *w) { return page_index_get(w, size, twin::key_of({2026, 3, 39})); };
+    auto list = [](word *w) {
+        word records[64];
+        return page_index_list(w, size, records, 64);
+    };
+    auto read = [](word *w) { return month_board_read(w, size, 2026, 3, 39); };
+    auto print = [](word *w) {
+        unsigned char lines[512];
+        return month_board_print(w, size, 2026, lines, sizeof lines);
+    };
+    auto set = [](word *w) { return month_board_set(w, size, 2026, 3, 39, 1, all); };
+    bool done = unwritable("get", shared, get) == "done";
+    done &= unwritable("list", shared, list) == "done";
+    done &= unwritable("board: read", shared, read) == "done";
+    done &= unwritable("board: print", shared, print) == "done";
+    return unwritable("board: set", shared, set) == "a store" && done;
 }
 
 }  // namespace
@@ -195,7 +272,9 @@ std::vector<Case> cases() {
 int main() {
     void *at = mmap(nullptr, size * sizeof(word), PROT_READ | PROT_WRITE, MAP_SHARED | MAP_ANONYMOUS, -1, 0);
     if (at == MAP_FAILED) fail("mmap");
+    word *shared = static_cast<word *>(at);
     bool sound = true;
-    for (const Case &c : cases()) sound = passes(c, static_cast<word *>(at)) && sound;
-    return sound ? 0 : 1;
+    for (const Case &c : cases()) sound = passes(c, shared) && sound;
+    for (const Case &c : board_cases()) sound = passes(c, shared) && sound;
+    return readers_pass(shared) && sound ? 0 : 1;
 }

@@ -1,7 +1,7 @@
-// The stack that each call uses, against the figure of bindings/c/page_index.h. A call runs on a
-// stack of its own that was painted; the lowest byte that has changed is the deepest one used. Each
-// runs twice, with two paints, so that a byte that is stored as it was painted is seen too.
-#include "../../bindings/c/page_index.h"
+// The stack that each call uses, against the figure of bindings/c/page_index.h and month_board.h. A
+// call runs on a stack of its own that was painted; the lowest byte that has changed is the deepest one
+// used. Each runs twice, with two paints, so that a byte that is stored as it was painted is seen too.
+#include "../../bindings/c/month_board.h"
 
 #include <ucontext.h>
 
@@ -53,7 +53,7 @@ bool passes(const char *name, const Words &before, std::uint32_t stores,
         most = std::max(most, used(paint));
         done = done && reply.code == PAGE_INDEX_DONE && reply.stores == stores;
     }
-    std::printf("%-26s stores %4u, bytes of stack %5zu%s%s\n", name, stores, most, most < limit ? "" : ": too many",
+    std::printf("%-27s stores %4u, bytes of stack %5zu%s%s\n", name, stores, most, most < limit ? "" : ": too many",
                 done ? "" : ": ANOTHER ANSWER");
     return done && most < limit;
 }
@@ -79,12 +79,37 @@ Words full(word &pages) {
     return words;
 }
 
+// Jobs of a year from January on, with pages of twenty digits, up to the first refusal.
+Words full_board(word &jobs) {
+    Words words = formatted(8, 256);
+    auto set = [&] { return month_board_set(words.data(), words.size(), 9999, 1 + jobs / 4096, jobs % 4096, ~jobs, all); };
+    while (set().code == PAGE_INDEX_DONE) jobs++;
+    return words;
+}
+
 // A directory of depth 12 that is one block, of which only the leader is right.
 Words to_mend() {
     Words words = formatted(12, 13);
     words[0] += 12;
     for (std::size_t i = 4097; i < 8192; i++) words[i] = 1;
     return words;
+}
+
+bool board_passes() {
+    word jobs = 0;
+    Words board = full_board(jobs);
+    word month = 1 + (jobs - 1) / 4096, number = (jobs - 1) % 4096;
+    std::vector<unsigned char> lines(32 * jobs);
+    bool sound = passes("board: set of a known job", board, 1,
+                        [=](word *w, std::size_t n) { return month_board_set(w, n, 9999, month, number, 1, all); });
+    sound &= passes("board: set, the most stores", before_most_stores(), 9764,
+                    [](word *w, std::size_t n) { return month_board_set(w, n, 5, 7, 4080, 1, all); });
+    sound &= passes("board: read", board, 0, [=](word *w, std::size_t n) { return month_board_read(w, n, 9999, month, number); });
+    sound &= passes("board: remove", board, 1,
+                    [=](word *w, std::size_t n) { return month_board_remove(w, n, 9999, month, number, all); });
+    sound &= passes("board: print of a full one", board, 0,
+                    [&](word *w, std::size_t n) { return month_board_print(w, n, 9999, lines.data(), lines.size()); });
+    return sound;
 }
 
 page_index_reply greedy(word *words, std::size_t len) {
@@ -107,6 +132,7 @@ int main() {
     sound &= passes("mend", to_mend(), 4095, [](word *w, std::size_t n) { return page_index_mend(w, n, all); });
     sound &= passes("list of a full index", index, 0,
                     [&](word *w, std::size_t n) { return page_index_list(w, n, list.data(), list.size()); });
+    sound &= board_passes();
     // The test must see a call that uses more.
     return !passes("get with 8,192 of its own", index, 0, greedy) && sound ? 0 : 1;
 }

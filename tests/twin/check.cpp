@@ -1,5 +1,6 @@
-// The twin against the library: random runs of calls on small indexes, every answer and every word.
-#include "../../bindings/c/page_index.h"
+// The twin against the library: random runs of calls on small indexes and boards, every answer, every
+// word and every byte of a print.
+#include "../../bindings/c/month_board.h"
 #include "twin.hpp"
 
 #include <algorithm>
@@ -46,12 +47,51 @@ bool agrees(Words &ours, Words &theirs, std::mt19937_64 &r) {
     }
 }
 
-}  // namespace
+// Years, months and numbers at the ends of their ranges and behind them, and some that give another job's
+// key where bits are lost or the number runs into the month.
+twin::Job job(std::mt19937_64 &r) {
+    constexpr word years[] = {1, 2026, 2026, 2027, 9999, 0, 10000, (word(1) << 48) + 2026};
+    constexpr word months[] = {0, 13, (word(1) << 52) + 1, ~word(0)};
+    constexpr word numbers[] = {0, 9, 10, 4095, 4096, 4096 + 7, (word(1) << 32) + 7, ~word(0)};
+    word month = r() % 16 ? 1 + r() % 12 : months[r() % 4];
+    return {years[r() % (r() % 4 ? 5 : 8)], month, r() % 8 ? 7 + 16 * (r() % 60) : numbers[r() % 8]};
+}
 
-int main() {
-    std::mt19937_64 r(20261115);
+// Prints into buffers of just the bytes needed, one byte less and some more.
+bool prints_agree(const Words &ours, Words &theirs, word year) {
+    const twin::Board<> board(theirs.data(), theirs.size());
+    std::vector<unsigned char> most(1 << 16, 0xe7);
+    word exact = board.print(year, most.data(), most.size()).value;
+    for (std::size_t room : {exact, exact ? exact - 1 : 0, exact + 9}) {
+        std::vector<unsigned char> a(room + 1, 0xe7), b = a;
+        page_index_reply got = month_board_print(ours.data(), ours.size(), year, a.data(), room);
+        if (!same(got, board.print(year, b.data(), room)) || a != b || ours != theirs) return false;
+    }
+    return true;
+}
+
+// One call of the board on both arrays, or a mend; one in 512 is a print.
+bool board_agrees(Words &ours, Words &theirs, std::mt19937_64 &r) {
+    twin::Board<> board(theirs.data(), theirs.size());
+    word *w = ours.data();
+    std::size_t n = ours.size();
+    twin::Job j = job(r);
+    word pages = r() >> r() % 64, kind = r() % 512;
+    std::uint32_t allowance = r() % 4 ? 0xffffffff : std::uint32_t(r() % 100);
+    if (kind == 0) return prints_agree(ours, theirs, j.year);
+    bool answered = kind < 40    ? same(page_index_mend(w, n, allowance), twin::Index<>(theirs.data(), n).mend(allowance))
+                    : kind < 160 ? same(month_board_read(w, n, j.year, j.month, j.number), board.read(j))
+                    : kind < 280 ? same(month_board_remove(w, n, j.year, j.month, j.number, allowance), board.remove(j, allowance))
+                                 : same(month_board_set(w, n, j.year, j.month, j.number, pages, allowance), board.set(j, pages, allowance));
+    return answered && ours == theirs;
+}
+
+// Runs of 800 calls from a format on, every second one with damage. Answers how many calls were made, or
+// 0 where one differs.
+long calls_made(const char *name, int runs, std::uint64_t seed, bool (*call_agrees)(Words &, Words &, std::mt19937_64 &)) {
+    std::mt19937_64 r(seed);
     long calls = 0;
-    for (int run = 0; run < 400; run++) {
+    for (int run = 0; run < runs; run++) {
         word d = 2 + r() % 6, s = 1 + r() % (1u << std::min<word>(d, 4));
         Words ours((2u << d) + 128 * s), theirs;
         for (word &x : ours) x = r() % 2 ? 0 : r();
@@ -60,11 +100,19 @@ int main() {
         twin::Index<>(theirs.data(), theirs.size()).format(d, s, 0xffffffff);
         for (int step = 0; step < 800; step++, calls++) {
             if (step % 50 == 49 && run % 2) ours[r() % 64 % ours.size()] ^= word(1) << (r() % 40), theirs = ours;
-            if (agrees(ours, theirs, r)) continue;
-            std::printf("run %d, step %d: the twin differs\n", run, step);
-            return 1;
+            if (call_agrees(ours, theirs, r)) continue;
+            std::printf("%s, run %d, step %d: the twin differs\n", name, run, step);
+            return 0;
         }
     }
-    std::printf("twin and library: %ld calls, no difference\n", calls);
-    return 0;
+    std::printf("%s, twin and library: %ld calls, no difference\n", name, calls);
+    return calls;
+}
+
+}  // namespace
+
+int main() {
+    bool index = calls_made("index", 400, 20261115, agrees) > 0;
+    bool board = calls_made("board", 200, 20261116, board_agrees) > 0;
+    return index && board ? 0 : 1;
 }

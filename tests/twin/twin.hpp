@@ -1,5 +1,5 @@
-// The page index written by hand in C++: the same scheme, the same stores in the same order, no
-// proofs. The tests compare with it and put faults into it; the benchmark races it.
+// The page index and the month board written by hand in C++: the same scheme, the same stores in the
+// same order, no proofs. The tests compare with it and put faults into it; the benchmark races it.
 #pragma once
 #include <cstddef>
 #include <cstdint>
@@ -20,6 +20,9 @@ enum Code : std::uint32_t {
     bad_shape = 8,
     too_short = 9,
     short_list = 10,
+    bad_year = 11,
+    bad_month = 12,
+    bad_number = 13,
     absent = 255,
 };
 
@@ -305,6 +308,91 @@ class Index {
             i += std::size_t(1) << (g - l);
         }
         return records;
+    }
+};
+
+struct Job {
+    word year, month, number;
+};
+
+inline word key_of(const Job &job) { return job.year * 65536 + job.month * 4096 + job.number; }
+
+inline std::uint32_t refusal_of(const Job &job) {
+    if (job.year < 1 || job.year > 9999) return bad_year;
+    if (job.month < 1 || job.month > 12) return bad_month;
+    return job.number > 4095 ? bad_number : done;
+}
+
+// The month board over an index. A print asks for every job of its year twice:
+// first for the refusals and the length, then to write the lines.
+template <class Log = NoLog, Fault fault = Fault::none>
+class Board {
+  public:
+    Board(word *words, std::size_t length, Log log = Log()) : index(words, length, log) {}
+
+    Answer set(const Job &job, word pages, std::uint32_t allowance) {
+        std::uint32_t no = refusal_of(job);
+        return no ? Answer{no, 0, 0} : index.put(key_of(job), pages, allowance);
+    }
+
+    Answer read(const Job &job) const {
+        std::uint32_t no = refusal_of(job);
+        return no ? Answer{no, 0, 0} : index.get(key_of(job));
+    }
+
+    Answer remove(const Job &job, std::uint32_t allowance) {
+        std::uint32_t no = refusal_of(job);
+        return no ? Answer{no, 0, 0} : index.remove(key_of(job), allowance);
+    }
+
+    Answer print(word year, unsigned char *buffer, std::size_t room) const {
+        if (std::uint32_t no = refusal_of({year, 1, 0})) return Answer{no, 0, 0};
+        std::size_t length = 0;
+        std::uint32_t no = each_found(year, [&length](const Job &job, word pages) {
+            length += 3 + 1 + digits(job.number) + 1 + digits(pages) + 1;
+        });
+        if (no) return Answer{no, 0, 0};
+        if (length > room) return Answer{short_list, 0, 0};
+        each_found(year, [&buffer](const Job &job, word pages) { buffer = write_line(buffer, job, pages); });
+        return Answer{done, 0, length};
+    }
+
+  private:
+    Index<Log, fault> index;
+
+    // Visits the jobs of a year that are found, rising; answers the first refusal of a lookup, or done.
+    template <class Visit>
+    std::uint32_t each_found(word year, Visit visit) const {
+        for (Job job{year, 1, 0}; job.month <= 12; job.month++)
+            for (job.number = 0; job.number <= 4095; job.number++) {
+                Answer got = index.get(key_of(job));
+                if (got.code == absent) continue;
+                if (got.code != done) return got.code;
+                visit(job, got.value);
+            }
+        return done;
+    }
+
+    static unsigned digits(word number) {
+        unsigned count = 1;
+        while (number /= 10) count++;
+        return count;
+    }
+
+    static unsigned char *write_number(unsigned char *at, word number) {
+        unsigned char *end = at + digits(number);
+        for (unsigned char *digit = end; digit-- > at; number /= 10) *digit = '0' + number % 10;
+        return end;
+    }
+
+    static unsigned char *write_line(unsigned char *at, const Job &job, word pages) {
+        for (unsigned i = 0; i < 3; i++) *at++ = "JanFebMarAprMayJunJulAugSepOctNovDec"[3 * (job.month - 1) + i];
+        *at++ = '\t';
+        at = write_number(at, job.number);
+        *at++ = '\t';
+        at = write_number(at, pages);
+        *at++ = '\n';
+        return at;
     }
 };
 

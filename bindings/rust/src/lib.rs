@@ -4,6 +4,7 @@
 //! Every array and every argument gets an answer; no call touches a word outside the array, allocates
 //! or keeps state. A call makes its stores one word at a time in a fixed order, so that a power cut
 //! leaves the array as an allowance of so many stores would; after one, [`mend`] until it is done.
+//! [`board`] keeps the pages of jobs, by year, month and number, in an array of its own.
 //!
 //! ```
 //! use page_index::{format, get, list, mend, put, remove, Refusal};
@@ -28,10 +29,12 @@
 //! ```
 #![warn(missing_docs)]
 
+pub mod board;
+
 use std::error::Error;
 use std::fmt;
 
-/// The ten replies that say no, with their numbers.
+/// The replies that say no, with their numbers. The last three are given by the board alone.
 #[derive(Clone, Copy, Debug, PartialEq, Eq, Hash)]
 #[repr(u32)]
 pub enum Refusal {
@@ -53,8 +56,15 @@ pub enum Refusal {
     BadShape = 8,
     /// The array has too few words for this shape.
     TooShort = 9,
-    /// The list array has fewer than two words for each record.
+    /// The list array has fewer than two words for each record, or the board's buffer is shorter than
+    /// the lines.
     ShortList = 10,
+    /// The year is not 1 to 9999.
+    BadYear = 11,
+    /// The month is not 1 to 12.
+    BadMonth = 12,
+    /// The number of the job is not 0 to 4095.
+    BadNumber = 13,
 }
 
 /// A refusal, and the number of stores that the call made before it.
@@ -106,6 +116,9 @@ fn refusal(code: u32) -> Refusal {
         8 => Refusal::BadShape,
         9 => Refusal::TooShort,
         10 => Refusal::ShortList,
+        11 => Refusal::BadYear,
+        12 => Refusal::BadMonth,
+        13 => Refusal::BadNumber,
         _ => unreachable!("the index answers no code {code}"),
     }
 }

@@ -9,28 +9,18 @@ use denote.Enum.Declared
 use types.Run.{OneOf, miss}
 use Rattle.replies.proofs.Reply
 use Rattle.replies.specs.declared.Refusal.{Refusal}
-use Rattle.replies.specs.declared.Refusal.the-variants.{NoStore, NoKey, Broken, Unmended, TooDeep, NoSegment, CutOff, BadShape, TooShort, ShortList}
 use Rattle.replies.specs.declared.Reply.{Reply}
 use Rattle.replies.specs.declared.Reply.the-variants.{Done, Value, Absent, Refused}
 use Rattle.replies.specs.Replies.{numberOf, saidBy}
+use Rattle.replies.proofs.Numbers.{number-below-100}
 use Rattle.text.specs.Parts.{tab, lineFeed}
 use Rattle.text.specs.Number.{decimal, spelled}
 use Rattle.desk_text.specs.Output.{replyText, valuesText, endText, answerLine, lineRoom}
-use Rattle.text.proofs.Digits.{length-decimal}
+use Rattle.text.proofs.Digits.{length-decimal, length-below-100}
 
 -- The number of a refusal has at most two digits.
 pub length-refusal : (r : Refusal) → length (decimal (numberOf r)) ≤ 2
-unfolding decimal spelled
-length-refusal NoStore = omega arith
-length-refusal NoKey = omega arith
-length-refusal Broken = omega arith
-length-refusal Unmended = omega arith
-length-refusal TooDeep = omega arith
-length-refusal NoSegment = omega arith
-length-refusal CutOff = omega arith
-length-refusal BadShape = omega arith
-length-refusal TooShort = omega arith
-length-refusal ShortList = omega arith
+length-refusal r = length-below-100 (numberOf r) (number-below-100 r)
 
 pub length-reply : (r : Reply) → length (replyText (saidBy r)) ≤ 2
 length-reply Done = omega arith

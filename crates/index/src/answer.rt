@@ -1,4 +1,4 @@
-// Answers: a refusal before the first store, and the answer of a call whose stores are counted.
+// The answer of a call whose stores are counted.
 use replies::Answer;
 use replies::Refusal;
 use replies::Reply;
@@ -7,13 +7,6 @@ ghost use Prim.Native.Nat.{min};
 ghost use lib.Dec.{leb};
 ghost use Rattle.stores.specs.Lists.{pick};
 ghost use Rattle.replies.specs.Replies.{saidBy, refused};
-
-// The answer of a call that made no store.
-pub(crate) fn without_store(reply: Reply) -> Answer
-    ensures { λ r. ⌜ (r .reply ≡ reply) × (r .stores ≡ 0) ⌝ }
-{
-    Answer { reply, stores: 0 }
-}
 
 // The answer of a call of which `due` stores were due and `allowed` could be made: the reply, or cut
 // off where more were due than allowed.

@@ -7,7 +7,6 @@ mod place;
 mod slot;
 
 use answer::after_stores;
-use answer::without_store;
 use directory::mend::mend_entries;
 use directory::scan::Verdict;
 use directory::scan::scan;
@@ -24,6 +23,7 @@ use place::place_to_read;
 use replies::Answer;
 use replies::Refusal;
 use replies::Reply;
+use replies::without_store;
 use rules::Call;
 use segment::choice::Choice;
 use segment::probe::Hit;

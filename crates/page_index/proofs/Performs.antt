@@ -3,7 +3,7 @@
 -- Assumes nothing.
 use Prim.Native.Nat.{ℕ}
 use mathlib.Core.Path.{_≡_, refl, sym}
-use mathlib.Core.Bool.{false}
+use mathlib.Core.Bool.{Bool, false}
 use mathlib.Core.List.{List}
 use lib.ListN.{length}
 use Rattle.stores.specs.Plan.{Outcome}
@@ -26,10 +26,10 @@ pub record ToldPerformed (call : Call) (a l : List ℕ) (r : PageIndexReply) (a�
   pub tells : Tells (saidBy (answer .reply)) (answer .stores) r
 
 -- The answer that an outcome's reply and count make, where a reply of the code says so.
-abbrev answer-of : (o : Outcome Said) → Sayable (o .reply) → Answer
+abbrev answer-of : {may : ℕ → Bool} (o : Outcome Said) → Sayable may (o .reply) → Answer
 answer-of o s = record { reply = s .reply; stores = o .made }
 
-answer-tells : (o : Outcome Said) (s : Sayable (o .reply)) (r : PageIndexReply) → Tells (o .reply) (o .made) r
+answer-tells : {may : ℕ → Bool} (o : Outcome Said) (s : Sayable may (o .reply)) (r : PageIndexReply) → Tells (o .reply) (o .made) r
     → Tells (saidBy (s .reply)) (o .made) r
 answer-tells o s r k = tells-same k (sym (s .says)) refl
 

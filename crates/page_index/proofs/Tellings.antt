@@ -9,8 +9,9 @@ use Rattle.rules.specs.declared.Call.the-variants.{List as ListCall}
 use Rattle.replies.specs.Replies.{Said, saidBy}
 use Rattle.rules.specs.Step.{Performed}
 use Rattle.index.specs.Answered.{Answered}
+use Rattle.board.specs.Print.{Printing, Printed}
 use Rattle.page_index.specs.declared.PageIndexReply.{PageIndexReply}
-use Rattle.page_index.specs.Told.{Tells, Told, ToldList, codeOf, valueOf}
+use Rattle.page_index.specs.Told.{Tells, Told, ToldList, ToldPrint, codeOf, valueOf}
 
 -- An answer that says the same says so in numbers too.
 pub tells-same : {s t : Said} {m n : ℕ} {r : PageIndexReply} → Tells s m r → s ≡ t → m ≡ n → Tells t n r
@@ -26,3 +27,6 @@ module _ {answer : Answer} {r : PageIndexReply} (k : Tells (saidBy (answer .repl
         told = record { answer = tells-same k (h .reply) (h .stores); words = h .words };
         listed = h .listed;
       }
+
+  pub told-printed : {p : Printing} {before after : List ℕ} → Printed p answer before after → ToldPrint p r before after
+  told-printed h = record { told = tells-same k (h .reply) (h .stores); bytes = h .bytes }

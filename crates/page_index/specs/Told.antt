@@ -2,12 +2,13 @@
 -- Assumes nothing.
 use Prim.Native.Nat.{ℕ}
 use mathlib.Core.Path.{_≡_}
-use mathlib.Core.List.{List, [], _∷_}
-use lib.ListN.{length}
+use mathlib.Core.List.{List, [], _∷_, _++_}
+use lib.ListN.{length, drop}
 use Rattle.stores.specs.Plan.{Outcome}
 use Rattle.rules.specs.declared.Call.the-variants.{List as ListCall}
 use Rattle.replies.specs.Replies.{Said, done, absent, refused}
 use Rattle.rules.specs.Step.{step, ListLeft}
+use Rattle.board.specs.Print.{Printing}
 use Rattle.page_index.specs.declared.PageIndexReply.{PageIndexReply}
 
 -- The code of a reply: 0 for done, document 01's number of a refusal, and 255, which is our choice, for absent.
@@ -16,7 +17,7 @@ codeOf (done values) = 0
 codeOf absent = 255
 codeOf (refused n) = n
 
--- The value that goes with a reply: what a get found, or how many records a list wrote; else 0.
+-- The value that goes with a reply: what a get found, how many records a list wrote, or how many bytes a print; else 0.
 abbrev pub valueOf : Said → ℕ
 valueOf (done []) = 0
 valueOf (done (v ∷ vs)) = v
@@ -38,3 +39,8 @@ pub record Told (o : Outcome Said) (r : PageIndexReply) (after : List ℕ) : Typ
 pub record ToldList (a l : List ℕ) (r : PageIndexReply) (l′ : List ℕ) : Type 0 where
   pub told : Told (step a (length l) ListCall) r a
   pub listed : ListLeft ListCall ((step a (length l) ListCall) .reply) a l l′
+
+-- A print has told what it says, with no store, and has left in the buffer its lines and behind them what stood there.
+pub record ToldPrint (p : Printing) (r : PageIndexReply) (before after : List ℕ) : Type 0 where
+  pub told : Tells (p .reply) 0 r
+  pub bytes : after ≡ p .lines ++ drop (length (p .lines)) before

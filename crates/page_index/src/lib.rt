@@ -1,4 +1,7 @@
-// The six calls for C and Rust. Each is the index's call, its answer told in three numbers.
+// The calls of the index for C and Rust, those of the header page_index.h. Each is the index's call, its
+// answer told in three numbers. The month board's are in `month_board`.
+mod month_board;
+
 use replies::Answer;
 use replies::Reply;
 use replies::refusal_number;
@@ -18,8 +21,8 @@ pub struct PageIndexReply {
     pub value: u64,
 }
 
-// An answer of the index in three numbers.
-fn told(answer: Answer) -> PageIndexReply
+// An answer in three numbers.
+pub(crate) fn told(answer: Answer) -> PageIndexReply
     ensures { λ r. ⌜ Tells (saidBy (answer .reply)) (answer .stores) r ⌝ }
 {
     let stores = answer.stores;

@@ -1,4 +1,5 @@
 -- The laws of replies.
+pub mod Numbers
 pub mod Outcomes
 pub mod Sayable
 pub mod Samples

@@ -1,4 +1,4 @@
--- The numbers of document 01's table, what counts as done, and calls cut off. antt computes each from the definitions.
+-- The numbers of the refusals, what counts as done, and calls cut off. antt computes each from the definitions.
 -- Assumes nothing.
 use Prim.Native.Nat.{ℕ}
 use mathlib.Core.Path.{_≡_, refl}
@@ -8,16 +8,16 @@ use mathlib.Core.Option.{some}
 use lib.Dec.{eqb}
 use Rattle.stores.specs.Store.{store, apply, exec}
 use Rattle.stores.specs.Plan.{Plan, Outcome, cut}
-use Rattle.replies.specs.declared.Refusal.the-variants.{NoStore, NoKey, Broken, Unmended, TooDeep, NoSegment, CutOff, BadShape, TooShort, ShortList}
+use Rattle.replies.specs.declared.Refusal.the-variants.{NoStore, NoKey, Broken, Unmended, TooDeep, NoSegment, CutOff, BadShape, TooShort, ShortList, BadYear, BadMonth, BadNumber}
 use Rattle.stores.specs.Lists.{numbersSame}
 use Rattle.replies.specs.Replies.{numberOf, Said, done, absent, refused, isDone, isRefusal, saidSame, unless, tested, changed}
 
 pub numbers : List ℕ
 numbers =
     numberOf NoStore ∷ numberOf NoKey ∷ numberOf Broken ∷ numberOf Unmended ∷ numberOf TooDeep ∷ numberOf NoSegment ∷ numberOf CutOff
-    ∷ numberOf BadShape ∷ numberOf TooShort ∷ numberOf ShortList ∷ []
+    ∷ numberOf BadShape ∷ numberOf TooShort ∷ numberOf ShortList ∷ numberOf BadYear ∷ numberOf BadMonth ∷ numberOf BadNumber ∷ []
 
-pub numbers-are : numbers ≡ 1 ∷ 2 ∷ 3 ∷ 4 ∷ 5 ∷ 6 ∷ 7 ∷ 8 ∷ 9 ∷ 10 ∷ []
+pub numbers-are : numbers ≡ 1 ∷ 2 ∷ 3 ∷ 4 ∷ 5 ∷ 6 ∷ 7 ∷ 8 ∷ 9 ∷ 10 ∷ 11 ∷ 12 ∷ 13 ∷ []
 unfolding numbers
 numbers-are = refl
 

@@ -1,44 +1,75 @@
--- Replies that the code's enum has: done, done with one value, absent, or one of the listed refusals.
+-- Replies that the code's enum has: done, done with one value, absent, or a refusal that the call can give.
 -- Assumes nothing.
 use Prim.Native.Nat.{ℕ}
-use mathlib.Core.Path.{_≡_, refl}
+use mathlib.Core.Path.{_≡_, refl, sym, _∙_}
 use mathlib.Core.Bool.{Bool, true, false}
-use mathlib.Core.List.{List}
+use mathlib.Core.List.{List, [], _∷_}
 use mathlib.Core.Option.{Option, none, some}
 use lib.Dec.{leb}
 use lib.ListN.{length}
+use native.Mathlib.Omega.{arith}
 use Rattle.stores.specs.Lists.{pick}
 use Rattle.stores.specs.Plan.{Plan, cut}
 use Rattle.replies.specs.declared.Refusal.{Refusal}
 use Rattle.replies.specs.declared.Refusal.the-variants.{CutOff}
 use Rattle.replies.specs.declared.Reply.{Reply}
-use Rattle.replies.specs.declared.Reply.the-variants.{Refused}
-use Rattle.replies.specs.Replies.{Said, refuse, saidBy, tested, replied, changed}
+use Rattle.replies.specs.declared.Reply.the-variants.{Done, Value, Absent, Refused}
+use Rattle.replies.specs.Replies.{Said, refused, numberOf, refuse, saidBy, unless, tested, replied, changed}
+use Rattle.replies.proofs.Outcomes.{refused-not-done, refused-inj}
 
--- Some reply of the code says this.
-pub record Sayable (said : Said) : Type 0 where
-  pub reply : Reply
-  pub says : saidBy reply ≡ said
+module _ (gives : ℕ → Bool) where
+  -- A reply that refuses does so with a number that is given.
+  abbrev pub Given : Reply → Type 0
+  Given Done = Unit {0}
+  Given (Value v) = Unit {0}
+  Given Absent = Unit {0}
+  Given (Refused r) = gives (numberOf r) ≡ true
 
-pub by : (r : Reply) → Sayable (saidBy r)
-by r = record { reply = r; says = refl }
+  -- Tests that refuse do so with such a number.
+  abbrev pub GivenBy : Option Refusal → Type 0
+  GivenBy none = Unit {0}
+  GivenBy (some r) = gives (numberOf r) ≡ true
 
--- ---- Tests, and the cut
+  -- Some reply of the code says this, and where it refuses, with such a number.
+  pub record Sayable (said : Said) : Type 0 where
+    pub reply : Reply
+    pub says : saidBy reply ≡ said
+    pub given : Given reply
 
-pub tested-sayable : (t : Option Refusal) (p : Plan Said) → Sayable (p .reply) → Sayable ((tested t p) .reply)
-unfolding tested
-tested-sayable none p s = s
-tested-sayable (some r) p s = by (Refused r)
+  pub by : (r : Reply) → Given r → Sayable (saidBy r)
+  by r g = record { reply = r; says = refl; given = g }
 
-pub replied-sayable : (t : Option Refusal) (s : Said) → Sayable s → Sayable (replied t s)
-unfolding replied
-replied-sayable none s k = k
-replied-sayable (some r) s k = by (Refused r)
+  -- ---- Tests, and the cut
 
-pick-sayable : (t : Bool) (s : Said) → Sayable s → Sayable (pick t s (refuse CutOff))
-pick-sayable true s k = k
-pick-sayable false s k = by (Refused CutOff)
+  pub unless-given : (t : Bool) (r : Refusal) (later : Option Refusal) → gives (numberOf r) ≡ true → GivenBy later → GivenBy (unless t r later)
+  unfolding unless
+  unless-given true r later g k = k
+  unless-given false r later g k = g
 
-pub changed-sayable : (n : ℕ) (p : Plan Said) (a : List ℕ) → Sayable (p .reply) → Sayable ((changed n p a) .reply)
-unfolding changed cut
-changed-sayable n p a s = pick-sayable (leb (length (p .due)) n) (p .reply) s
+  pub tested-sayable : (t : Option Refusal) (p : Plan Said) → GivenBy t → Sayable (p .reply) → Sayable ((tested t p) .reply)
+  unfolding tested
+  tested-sayable none p g s = s
+  tested-sayable (some r) p g s = by (Refused r) g
+
+  pub replied-sayable : (t : Option Refusal) (s : Said) → GivenBy t → Sayable s → Sayable (replied t s)
+  unfolding replied
+  replied-sayable none s g k = k
+  replied-sayable (some r) s g k = by (Refused r) g
+
+  pick-sayable : (t : Bool) (s : Said) → gives 7 ≡ true → Sayable s → Sayable (pick t s (refuse CutOff))
+  pick-sayable true s g k = k
+  pick-sayable false s g k = by (Refused CutOff) g
+
+  pub changed-sayable : (n : ℕ) (p : Plan Said) (a : List ℕ) → gives 7 ≡ true → Sayable (p .reply) → Sayable ((changed n p a) .reply)
+  unfolding changed cut
+  changed-sayable n p a g s = pick-sayable (leb (length (p .due)) n) (p .reply) g s
+
+  -- A refusal that is said so is given.
+  pub refused-given : {s : Said} (n : ℕ) → Sayable s → s ≡ refused n → gives n ≡ true
+  refused-given n k e = go (k .reply) (k .given) (k .says ∙ e)
+    where
+      go : (r : Reply) → Given r → saidBy r ≡ refused n → gives n ≡ true
+      go Done g e = absurd (refused-not-done n [] (sym e))
+      go (Value v) g e = absurd (refused-not-done n (v ∷ []) (sym e))
+      go Absent g e = absurd (let z : _≡_ {A = ℕ} 0 1 = cc in omega arith)
+      go (Refused r) g e = rw (refused-inj e) at g

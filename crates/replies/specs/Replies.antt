@@ -8,11 +8,11 @@ use lib.Dec.{eqb}
 use Rattle.stores.specs.Lists.{numbersSame}
 use Rattle.stores.specs.Plan.{Plan, Outcome, reply-only, cut}
 use Rattle.replies.specs.declared.Refusal.{Refusal}
-use Rattle.replies.specs.declared.Refusal.the-variants.{NoStore, NoKey, Broken, Unmended, TooDeep, NoSegment, CutOff, BadShape, TooShort, ShortList}
+use Rattle.replies.specs.declared.Refusal.the-variants.{NoStore, NoKey, Broken, Unmended, TooDeep, NoSegment, CutOff, BadShape, TooShort, ShortList, BadYear, BadMonth, BadNumber}
 use Rattle.replies.specs.declared.Reply.{Reply}
 use Rattle.replies.specs.declared.Reply.the-variants.{Done, Value, Absent, Refused}
 
--- The number of a refusal in the table.
+-- The number of a refusal: 1 to 10 in document 01's table, from 11 on in document 02.
 abbrev pub numberOf : Refusal → ℕ
 numberOf NoStore = 1
 numberOf NoKey = 2
@@ -24,6 +24,9 @@ numberOf CutOff = 7
 numberOf BadShape = 8
 numberOf TooShort = 9
 numberOf ShortList = 10
+numberOf BadYear = 11
+numberOf BadMonth = 12
+numberOf BadNumber = 13
 
 -- What a call says: done, with the values that go with it; absent; or the number of a refusal.
 pub data Said : Type 0 where

@@ -2,7 +2,8 @@
 ghost use mathlib.Core.Path.{_≡_};
 ghost use Rattle.replies.specs.Replies.{numberOf};
 
-// Document 01, 'Replies that say no': the ten refusals, in the order of its table.
+// Document 01, 'Replies that say no': the ten refusals, in the order of its table; and those that
+// document 02 adds, in the order of their numbers.
 pub enum Refusal {
     NoStore,
     NoKey,
@@ -14,6 +15,9 @@ pub enum Refusal {
     BadShape,
     TooShort,
     ShortList,
+    BadYear,
+    BadMonth,
+    BadNumber,
 }
 
 // The reply of a call: done; done with a value, which is what a get found or how many records a
@@ -31,7 +35,14 @@ pub struct Answer {
     pub stores: u32,
 }
 
-// The number of a refusal in document 01's table.
+// The answer of a call that made no store.
+pub fn without_store(reply: Reply) -> Answer
+    ensures { λ r. ⌜ (r .reply ≡ reply) × (r .stores ≡ 0) ⌝ }
+{
+    Answer { reply, stores: 0 }
+}
+
+// The number of a refusal.
 pub fn refusal_number(refusal: Refusal) -> u32
     ensures { λ r. ⌜ r ≡ numberOf refusal ⌝ }
 {
@@ -46,5 +57,8 @@ pub fn refusal_number(refusal: Refusal) -> u32
         Refusal::BadShape => 8,
         Refusal::TooShort => 9,
         Refusal::ShortList => 10,
+        Refusal::BadYear => 11,
+        Refusal::BadMonth => 12,
+        Refusal::BadNumber => 13,
     }
 }

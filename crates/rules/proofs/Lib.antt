@@ -14,6 +14,7 @@ pub mod Split
 pub mod Put
 pub mod Refusals
 pub mod Said
+pub mod Lookups
 pub mod Bound
 pub mod Full
 pub mod Range

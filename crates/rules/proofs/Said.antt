@@ -1,72 +1,137 @@
 -- Every reply of every call, on every array, is one that the code's enum has: done, done with one value, absent, or one of the
--- listed refusals.
+-- refusals that document 01's table lists for that call.
 -- Assumes nothing.
 use Prim.Native.Nat.{ℕ, zero, suc}
+use mathlib.Core.Path.{_≡_, refl}
+use mathlib.Core.Bool.{Bool, true, false, not}
 use mathlib.Core.List.{List}
 use mathlib.Core.Option.{Option, none, some}
+use lib.Dec.{leb, eqb}
+use lib.ListN.{length}
 use Rattle.stores.specs.Plan.{Plan}
-use Rattle.replies.specs.declared.Refusal.the-variants.{TooDeep, NoSegment}
+use Rattle.replies.specs.declared.Refusal.{Refusal}
+use Rattle.replies.specs.declared.Refusal.the-variants.{NoStore, NoKey, Broken, Unmended, TooDeep, NoSegment, BadShape, TooShort, ShortList}
 use Rattle.replies.specs.declared.Reply.the-variants.{Done, Value, Absent, Refused}
 use Rattle.rules.specs.declared.Call.{Call}
 use Rattle.rules.specs.declared.Call.the-variants.{Format, Get, Put, Remove, Mend, List as ListCall}
-use Rattle.replies.specs.Replies.{Said}
-use Rattle.replies.proofs.Sayable.{Sayable, by, tested-sayable, replied-sayable, changed-sayable}
+use Rattle.replies.specs.Replies.{Said, refused}
+use Rattle.replies.proofs.Sayable.{GivenBy, Sayable, by, unless-given, tested-sayable, replied-sayable, changed-sayable, refused-given}
+use Rattle.rules.specs.Layout.{validShape, wordsFor, validHeader, depth, segments}
+use Rattle.rules.specs.Scan.{inRange, leadersValid, entriesAgree}
 use Rattle.rules.specs.Format.{formatTests, format}
 use Rattle.rules.specs.Slots.{Choice, found, into, full, hit, freeSegment}
-use Rattle.rules.specs.Get.{keySegment, getTests, valueAtHit, get}
-use Rattle.rules.specs.Put.{putTests, keyChoice, placed, intoFree, putUnused, unused, put}
+use Rattle.rules.specs.Get.{keyEntry, keySegment, keyTests, entryTests, getTests, valueAtHit, get}
+use Rattle.rules.specs.Put.{directoryTests, putTests, keyChoice, placed, intoFree, putUnused, unused, put}
 use Rattle.rules.specs.Remove.{removeTests, clearedAt, remove}
 use Rattle.rules.specs.Mend.{mendTests, mend}
-use Rattle.rules.specs.Listing.{listTests, list}
+use Rattle.rules.specs.Listing.{records, listTests, list}
 use Rattle.rules.specs.Step.{Effect, changes, answers, effect, carriedOut, step}
+use Rattle.rules.specs.Given.{refusalsOf, has, gives}
 use Rattle.rules.proofs.Refusals.{replyBy}
+
+-- ---- The tests in front of several calls
+
+module _ (may : ℕ → Bool) (a : List ℕ) where
+  key-given : (key : ℕ) (later : Option Refusal) → may 1 ≡ true → may 2 ≡ true → GivenBy may later → GivenBy may (keyTests a key later)
+  unfolding keyTests
+  key-given key later g₁ g₂ k =
+      unless-given may (validHeader a) NoStore _ g₁ (unless-given may (not (eqb key 0)) NoKey later g₂ k)
+
+  directory-given : (later : Option Refusal) → may 3 ≡ true → may 4 ≡ true → GivenBy may later → GivenBy may (directoryTests a later)
+  unfolding directoryTests
+  directory-given later g₃ g₄ k =
+      unless-given may (leadersValid a (depth a) (segments a)) Broken _ g₃ (unless-given may (entriesAgree a (depth a)) Unmended later g₄ k)
 
 -- ---- The calls
 
-valueAtHit-sayable : (a : List ℕ) (base : ℕ) (h : Option ℕ) → Sayable (valueAtHit a base h)
-unfolding valueAtHit
-valueAtHit-sayable a base none = by Absent
-valueAtHit-sayable a base (some j) = by (Value _)
+module _ (may : ℕ → Bool) where
+  valueAtHit-sayable : (a : List ℕ) (base : ℕ) (h : Option ℕ) → Sayable may (valueAtHit a base h)
+  unfolding valueAtHit
+  valueAtHit-sayable a base none = by may Absent Prim.tt
+  valueAtHit-sayable a base (some j) = by may (Value _) Prim.tt
 
-clearedAt-sayable : (base : ℕ) (h : Option ℕ) → Sayable ((clearedAt base h) .reply)
-unfolding clearedAt
-clearedAt-sayable base none = by Absent
-clearedAt-sayable base (some j) = by Done
+  clearedAt-sayable : (base : ℕ) (h : Option ℕ) → Sayable may ((clearedAt base h) .reply)
+  unfolding clearedAt
+  clearedAt-sayable base none = by may Absent Prim.tt
+  clearedAt-sayable base (some j) = by may Done Prim.tt
 
-placed-sayable : (base key value : ℕ) (c : Choice) (p : Plan Said) → Sayable (p .reply) → Sayable ((placed base key value c p) .reply)
-unfolding placed
-placed-sayable base key value (found j) p s = by Done
-placed-sayable base key value (into j) p s = by Done
-placed-sayable base key value full p s = s
+  placed-sayable : (base key value : ℕ) (c : Choice) (p : Plan Said) → Sayable may (p .reply) → Sayable may ((placed base key value c p) .reply)
+  unfolding placed
+  placed-sayable base key value (found j) p s = by may Done Prim.tt
+  placed-sayable base key value (into j) p s = by may Done Prim.tt
+  placed-sayable base key value full p s = s
 
-intoFree-sayable : (n : Option ℕ) (split : ℕ → Plan Said) → ((m : ℕ) → Sayable ((split m) .reply)) → Sayable ((intoFree n split) .reply)
-unfolding intoFree
-intoFree-sayable none split s = by (Refused NoSegment)
-intoFree-sayable (some m) split s = s m
+  intoFree-sayable : (n : Option ℕ) (split : ℕ → Plan Said) → may 6 ≡ true → ((m : ℕ) → Sayable may ((split m) .reply))
+      → Sayable may ((intoFree n split) .reply)
+  unfolding intoFree
+  intoFree-sayable none split g s = by may (Refused NoSegment) g
+  intoFree-sayable (some m) split g s = s m
 
-putUnused-sayable : (u : ℕ) (a : List ℕ) (key value : ℕ) → Sayable ((putUnused u a key value) .reply)
-unfolding putUnused
+-- What a put says is what any put can give, whatever its key, value and allowance.
+abbrev putGives : ℕ → Bool
+putGives = gives (Put 0 0 0)
+
+putUnused-sayable : (u : ℕ) (a : List ℕ) (key value : ℕ) → Sayable putGives ((putUnused u a key value) .reply)
+unfolding putUnused putTests gives refusalsOf has
 putUnused-sayable zero a key value =
-    tested-sayable (putTests a key) _ (placed-sayable (keySegment a key) key value (keyChoice a key) _ (by (Refused TooDeep)))
+    tested-sayable putGives (putTests a key) _ (key-given putGives a key _ refl refl (directory-given putGives a none refl refl Prim.tt))
+    (placed-sayable putGives (keySegment a key) key value (keyChoice a key) _ (by putGives (Refused TooDeep) refl))
 putUnused-sayable (suc u) a key value =
-    tested-sayable (putTests a key) _
-    (placed-sayable (keySegment a key) key value (keyChoice a key) _
-    (intoFree-sayable (freeSegment a) _ (λ n. putUnused-sayable u _ key value)))
+    tested-sayable putGives (putTests a key) _ (key-given putGives a key _ refl refl (directory-given putGives a none refl refl Prim.tt))
+    (placed-sayable putGives (keySegment a key) key value (keyChoice a key) _
+    (intoFree-sayable putGives (freeSegment a) _ refl (λ n. putUnused-sayable u _ key value)))
 
-carried-sayable : (e : Effect) (a : List ℕ) → Sayable (replyBy e) → Sayable ((carriedOut e a) .reply)
-carried-sayable (changes allowance p) a s = changed-sayable allowance p a s
-carried-sayable (answers t) a s = s
+-- A call that changes the array can give 7.
+abbrev CutGiven : Effect → (ℕ → Bool) → Type 0
+CutGiven (changes allowance p) may = may 7 ≡ true
+CutGiven (answers t) may = Unit {0}
 
-effect-sayable : (a : List ℕ) (room : ℕ) (call : Call) → Sayable (replyBy (effect a room call))
-unfolding effect format get put remove mend list
-effect-sayable a room (Format D S allowance) = tested-sayable (formatTests a D S) _ (by Done)
-effect-sayable a room (Get key) = replied-sayable (getTests a key) _ (valueAtHit-sayable a (keySegment a key) (hit a (keySegment a key) key))
+carried-sayable : (may : ℕ → Bool) (e : Effect) (a : List ℕ) → CutGiven e may → Sayable may (replyBy e) → Sayable may ((carriedOut e a) .reply)
+carried-sayable may (changes allowance p) a g s = changed-sayable may allowance p a g s
+carried-sayable may (answers t) a g s = s
+
+cut-given : (a : List ℕ) (room : ℕ) (call : Call) → CutGiven (effect a room call) (gives call)
+unfolding effect gives refusalsOf has
+cut-given a room (Format D S allowance) = refl
+cut-given a room (Get key) = Prim.tt
+cut-given a room (Put key value allowance) = refl
+cut-given a room (Remove key allowance) = refl
+cut-given a room (Mend allowance) = refl
+cut-given a room ListCall = Prim.tt
+
+effect-sayable : (a : List ℕ) (room : ℕ) (call : Call) → Sayable (gives call) (replyBy (effect a room call))
+unfolding effect format formatTests get getTests entryTests put remove removeTests mend mendTests list listTests gives refusalsOf has
+effect-sayable a room (Format D S allowance) =
+    let may = gives (Format D S allowance) in
+    tested-sayable may _ _
+    (unless-given may (validShape D S) BadShape _ refl (unless-given may (leb (wordsFor D S) (length a)) TooShort none refl Prim.tt))
+    (by may Done Prim.tt)
+effect-sayable a room (Get key) =
+    let may = gives (Get key) in
+    replied-sayable may _ _
+    (key-given may a key _ refl refl (unless-given may (inRange (depth a) (segments a) (keyEntry a key)) Broken none refl Prim.tt))
+    (valueAtHit-sayable may a (keySegment a key) (hit a (keySegment a key) key))
 effect-sayable a room (Put key value allowance) = putUnused-sayable (unused a key) a key value
 effect-sayable a room (Remove key allowance) =
-    tested-sayable (removeTests a key) _ (clearedAt-sayable (keySegment a key) (hit a (keySegment a key) key))
-effect-sayable a room (Mend allowance) = tested-sayable (mendTests a) _ (by Done)
-effect-sayable a room ListCall = replied-sayable (listTests a room) _ (by (Value _))
+    let may = gives (Remove key allowance) in
+    tested-sayable may _ _ (key-given may a key _ refl refl (directory-given may a none refl refl Prim.tt))
+    (clearedAt-sayable may (keySegment a key) (hit a (keySegment a key) key))
+effect-sayable a room (Mend allowance) =
+    let may = gives (Mend allowance) in
+    tested-sayable may _ _
+    (unless-given may (validHeader a) NoStore _ refl (unless-given may (leadersValid a (depth a) (segments a)) Broken none refl Prim.tt))
+    (by may Done Prim.tt)
+effect-sayable a room ListCall =
+    let may = gives ListCall in
+    replied-sayable may _ _
+    (unless-given may (validHeader a) NoStore _ refl
+    (directory-given may a _ refl refl (unless-given may (leb _ room) ShortList none refl Prim.tt)))
+    (by may (Value _) Prim.tt)
 
-pub step-sayable : (a : List ℕ) (room : ℕ) (call : Call) → Sayable ((step a room call) .reply)
+pub step-sayable : (a : List ℕ) (room : ℕ) (call : Call) → Sayable (gives call) ((step a room call) .reply)
 unfolding step
-step-sayable a room call = carried-sayable (effect a room call) a (effect-sayable a room call)
+step-sayable a room call = carried-sayable (gives call) (effect a room call) a (cut-given a room call) (effect-sayable a room call)
+
+-- A refusal of a call is one that the table lists for it.
+pub refusal-listed : (a : List ℕ) (room : ℕ) (call : Call) (n : ℕ) → (step a room call) .reply ≡ refused n → gives call n ≡ true
+refusal-listed a room call n e = refused-given (gives call) n (step-sayable a room call) e

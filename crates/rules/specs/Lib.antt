@@ -11,3 +11,4 @@ pub mod Remove
 pub mod Mend
 pub mod Listing
 pub mod Step
+pub mod Given

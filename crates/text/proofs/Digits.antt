@@ -13,7 +13,7 @@ use lib.Dec.{leb, ltb}
 use lib.ListN.{length, length-append}
 use Rattle.stores.specs.Lists.{pick}
 use Rattle.stores.proofs.Tests.{cases, and-left, and-right, and-true}
-use Rattle.text.specs.Number.{digitZero, isDigit, allDigits, valueFrom, number, withDigit, spelled, decimal}
+use Rattle.text.specs.Number.{digitZero, isDigit, allDigits, valueFrom, number, withDigit, spelled, decimal, twoDigits, fourDigits}
 
 -- ---- Reading
 
@@ -132,6 +132,92 @@ decimal-more n h k = spelled-more 18 n h (omega arith)
 pub length-decimal : (n : ℕ) → length (decimal n) ≤ 20
 unfolding decimal
 length-decimal n = length-spelled 20 n
+
+-- One digit, two, three and four, and four more.
+pub decimal-one : (n : ℕ) → n < 10 → decimal n ≡ (digitZero + n) ∷ []
+decimal-one n h =
+    let itself : n % 10 ≡ n = omega arith in
+    rw (decimal-digit n h, itself) refl
+
+pub decimal-two : (n : ℕ) → 10 ≤ n → n < 100 → decimal n ≡ twoDigits n
+decimal-two n h k =
+    let first : n / 10 % 10 ≡ n / 10 = omega arith in
+    decimal-more n h (omega arith) ∙ rw (decimal-digit (n / 10) (omega arith), first) refl
+
+pub decimal-three : (n : ℕ) → 100 ≤ n → n < 1000 → decimal n ≡ (digitZero + n / 100) ∷ twoDigits (n % 100)
+decimal-three n h k =
+    let first : n / 10 / 10 ≡ n / 100 = omega arith in
+    let second : n / 10 % 10 ≡ n % 100 / 10 = omega arith in
+    let third : n % 10 ≡ n % 100 % 10 = omega arith in
+    decimal-more n (omega arith) (omega arith) ∙ rw (decimal-two (n / 10) (omega arith) (omega arith), first, second, third) refl
+
+pub decimal-four : (n : ℕ) → 1000 ≤ n → n < 10000 → decimal n ≡ fourDigits n
+decimal-four n h k =
+    let first : n / 10 / 100 ≡ n / 100 / 10 = omega arith in
+    let second : n / 10 % 100 / 10 ≡ n / 100 % 10 = omega arith in
+    let third : n / 10 % 100 % 10 ≡ n % 100 / 10 = omega arith in
+    let fourth : n % 10 ≡ n % 100 % 10 = omega arith in
+    decimal-more n (omega arith) (omega arith) ∙ rw (decimal-three (n / 10) (omega arith) (omega arith), first, second, third, fourth) refl
+
+pub decimal-four-more : (n : ℕ) → 10000 ≤ n → n < 2 ^ 64 → decimal n ≡ decimal (n / 10000) ++ fourDigits (n % 10000)
+decimal-four-more n h k =
+    let rest : n / 10 / 10 / 10 / 10 ≡ n / 10000 = omega arith in
+    let first : n / 10 / 10 / 10 % 10 ≡ n % 10000 / 100 / 10 = omega arith in
+    let second : n / 10 / 10 % 10 ≡ n % 10000 / 100 % 10 = omega arith in
+    let third : n / 10 % 10 ≡ n % 10000 % 100 / 10 = omega arith in
+    let fourth : n % 10 ≡ n % 10000 % 100 % 10 = omega arith in
+    decimal-more n (omega arith) k
+    ∙ rw (
+      decimal-more (n / 10) (omega arith) (omega arith),
+      decimal-more (n / 10 / 10) (omega arith) (omega arith),
+      decimal-more (n / 10 / 10 / 10) (omega arith) (omega arith),
+      rest,
+      first,
+      second,
+      third,
+      fourth,
+    ) (joined (decimal (n / 10000)) _ _ _ _)
+  where
+    joined : (xs : List ℕ) (a b c d : ℕ) → (((xs ++ a ∷ []) ++ b ∷ []) ++ c ∷ []) ++ d ∷ [] ≡ xs ++ (a ∷ b ∷ c ∷ d ∷ [])
+    joined [] a b c d = refl
+    joined (x ∷ xs) a b c d = ap (λ (ys : List ℕ). x ∷ ys) (joined xs a b c d)
+
+-- One digit below 10, and one more than a tenth of the number has from 10 on.
+pub length-one-digit : (n : ℕ) → n < 10 → length (decimal n) ≡ 1
+length-one-digit n h = rw (decimal-digit n h) refl
+
+pub length-more-digits : (n : ℕ) → 10 ≤ n → n < 2 ^ 64 → length (decimal n) ≡ length (decimal (n / 10)) + 1
+length-more-digits n h k = ap length (decimal-more n h k) ∙ length-append (decimal (n / 10)) _
+
+pub length-two-digits : (n : ℕ) → 10 ≤ n → n < 100 → length (decimal n) ≡ 2
+length-two-digits n h k =
+    length-more-digits n h (omega arith) ∙ ap (λ m. m + 1) (length-one-digit (n / 10) (omega arith))
+
+pub length-three-digits : (n : ℕ) → 100 ≤ n → n < 1000 → length (decimal n) ≡ 3
+length-three-digits n h k =
+    length-more-digits n (omega arith) (omega arith) ∙ ap (λ m. m + 1) (length-two-digits (n / 10) (omega arith) (omega arith))
+
+pub length-four-digits : (n : ℕ) → 1000 ≤ n → n < 10000 → length (decimal n) ≡ 4
+length-four-digits n h k =
+    length-more-digits n (omega arith) (omega arith) ∙ ap (λ m. m + 1) (length-three-digits (n / 10) (omega arith) (omega arith))
+
+-- Four digits at a time.
+pub length-four-more : (n : ℕ) → 10000 ≤ n → n < 2 ^ 64 → length (decimal n) ≡ 4 + length (decimal (n / 10000))
+length-four-more n h k =
+    let e₁ = length-more-digits n (omega arith) k in
+    let e₂ = length-more-digits (n / 10) (omega arith) (omega arith) in
+    let e₃ = length-more-digits (n / 10 / 10) (omega arith) (omega arith) in
+    let e₄ = length-more-digits (n / 10 / 10 / 10) (omega arith) (omega arith) in
+    let same : n / 10 / 10 / 10 / 10 ≡ n / 10000 = omega arith in
+    let rest : length (decimal (n / 10 / 10 / 10 / 10)) ≡ length (decimal (n / 10000)) = ap (λ m. length (decimal m)) same in
+    omega arith
+
+pub length-below-100 : (n : ℕ) → n < 100 → length (decimal n) ≤ 2
+length-below-100 n h =
+    ⊎-elim
+    (λ (t : ltb n 10 ≡ true). let e = length-one-digit n (ltb-true n 10 t) in omega arith)
+    (λ (t : ltb n 10 ≡ false). let e = length-two-digits n (ltb-false n 10 t) h in omega arith)
+    (cases (ltb n 10))
 
 -- ---- Reader and writer agree
 

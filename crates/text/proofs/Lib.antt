@@ -2,4 +2,5 @@
 pub mod Digits
 pub mod Parts
 pub mod Lines
+pub mod Joined
 pub mod Samples

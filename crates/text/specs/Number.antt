@@ -54,3 +54,11 @@ spelled (suc most) n =
 -- A number below 2^64 in decimal digits, without leading zeros.
 unfoldable pub decimal : ℕ → List ℕ
 decimal n = spelled 20 n
+
+-- A number below 100 in two digits.
+abbrev pub twoDigits : ℕ → List ℕ
+twoDigits n = (digitZero + n / 10) ∷ (digitZero + n % 10) ∷ []
+
+-- A number below 10,000 in four digits.
+abbrev pub fourDigits : ℕ → List ℕ
+fourDigits n = twoDigits (n / 100) ++ twoDigits (n % 100)

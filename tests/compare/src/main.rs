@@ -1,5 +1,7 @@
 //! Compares the compiled index with the model, call by call and word by word: random calls on arrays
-//! that runs of calls leave, on such arrays with damage, and on arrays of random words.
+//! that runs of calls leave, on such arrays with damage, and on arrays of random words. Then the month board.
+mod board;
+mod board_model;
 mod model;
 
 use model::{Answer, Call, ABSENT, DONE};
@@ -32,6 +34,14 @@ struct Counts {
     cut: u64,
     damaged: u64,
     codes: std::collections::BTreeMap<(&'static str, u32), u64>,
+}
+
+impl Counts {
+    fn count(&mut self, call: &'static str, got: Answer) {
+        self.calls += 1;
+        self.cut += (got.code == model::CUT_OFF) as u64;
+        *self.codes.entry((call, got.code)).or_default() += 1;
+    }
 }
 
 fn name(call: Call) -> &'static str {
@@ -80,9 +90,7 @@ fn compare(ours: &mut [u64], theirs: &mut [u64], call: Call, room: usize, counts
     records.sort_unstable();
     assert_eq!(written, records, "{call:?}: the lists differ");
     assert!(list[2 * records.len()..].iter().all(|&w| w == UNWRITTEN), "a word behind the list was written");
-    counts.calls += 1;
-    counts.cut += (got.code == model::CUT_OFF) as u64;
-    *counts.codes.entry((name(call), got.code)).or_default() += 1;
+    counts.count(name(call), got);
     got
 }
 
@@ -177,17 +185,23 @@ fn run(r: &mut Random, steps: u64, damaged: bool, counts: &mut Counts) {
     }
 }
 
-/// One call on an array of random words with a likely word 0, or with none.
-fn random_array(r: &mut Random, counts: &mut Counts) {
+/// Random words with a likely word 0, or with none.
+fn random_words(r: &mut Random) -> Vec<u64> {
     let d = r.below(14);
     let s = r.below(20);
     let size = r.below(3000);
-    let mut ours: Vec<u64> = (0..size).map(|_| if r.chance(3) { r.next() } else { r.below(20) | r.below(5) << 32 }).collect();
-    if let Some(first) = ours.first_mut() {
+    let mut words: Vec<u64> = (0..size).map(|_| if r.chance(3) { r.next() } else { r.below(20) | r.below(5) << 32 }).collect();
+    if let Some(first) = words.first_mut() {
         if !r.chance(10) {
             *first = r.below(d + 2) | d << 8 | s << 16 | 0x5041_4745 << 32;
         }
     }
+    words
+}
+
+/// A few calls on an array of random words.
+fn random_array(r: &mut Random, counts: &mut Counts) {
+    let mut ours = random_words(r);
     let mut theirs = ours.clone();
     for _ in 0..3 {
         counts.damaged += 1;
@@ -215,6 +229,13 @@ fn main() {
     println!("calls {}, cut {}, on damaged or random arrays {}", counts.calls, counts.cut, counts.damaged);
     for ((call, code), count) in &counts.codes {
         println!("{call} {code}: {count}");
+    }
+    let mut counts = board::BoardCounts::default();
+    for &seed in &seeds {
+        board::compare_board(&mut Random(seed), rounds, &mut counts);
+    }
+    if !board::report(&counts) {
+        std::process::exit(1);
     }
     println!("no difference");
 }

@@ -162,7 +162,8 @@ fn format(draft: &mut Draft, d: u64, s: u64) -> u32 {
     DONE
 }
 
-fn get(words: &[u64], key: u64) -> Result<Option<u64>, u32> {
+/// The value of the key, if it has one, or the refusal.
+pub fn get(words: &[u64], key: u64) -> Result<Option<u64>, u32> {
     let shape = shape(words).ok_or(1u32)?;
     if key == 0 {
         return Err(2);

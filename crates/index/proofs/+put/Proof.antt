@@ -14,7 +14,7 @@ use Rattle.index.proofs.put.Reads as put
 use Rattle.index.proofs.put.Kinds as put-kinds
 use Rattle.index.proofs.+put.Lts-put as put-lts
 use Rattle.structure.proofs.split.split.Reads as split-reads
-use Rattle.index.proofs.answer.without_store.Reads as without-store-reads
+use Rattle.replies.proofs.without_store.Reads as without-store-reads
 use Rattle.index.proofs.place.place_to_change.Reads as place-to-change-reads
 use Rattle.index.proofs.slot.choose_at.Reads as choose-at-reads
 use Rattle.index.proofs.slot.put_record.Reads as put-record-reads

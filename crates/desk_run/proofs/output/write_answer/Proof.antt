@@ -23,7 +23,7 @@ write-head-requires c κs = search needs
 
 write-field-requires : tie.Need-write-field-requires
 write-field-requires c κs =
-    omega (arith, length-reply (c .before .before .before .before .before .before .before .args .answer .reply), c .before .before .before .write-head .ensures .behind)
+    omega (arith, length-reply (c .before .before .before .before .before .before .before .args .answer .reply), length-decimal (c .before .before .before .before .before .before .before .args .answer .stores), c .before .before .before .write-head .ensures .behind)
 
 write-end-requires : tie.Need-write-end-requires
 write-end-requires c κs =

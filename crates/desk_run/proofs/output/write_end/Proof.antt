@@ -24,7 +24,8 @@ returns c =
     rw (end-plain _ (c .before .before .before .before .match .keys2)) (c .before .before .write-byte .ensures)
 
 write-field-requires : tie.Need-write-field-requires
-write-field-requires c κs = search needs
+write-field-requires c κs =
+    omega (arith, length-decimal (c .before .before .reply .given .0 .0), c .before .before .before .before .before .pre)
 
 write-byte-requires-2 : tie.Need-write-byte-requires-2
 write-byte-requires-2 c κs =

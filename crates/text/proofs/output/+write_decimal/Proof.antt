@@ -1,20 +1,18 @@
 -- `text::output::write_decimal` meets its contract. The measure is the number itself.
 -- Assumes nothing.
-use mathlib.Core.Path.{_≡_, ap, _∙_}
-use Prim.Native.Nat.{ℕ, _+_, _/_, _<_}
-use lib.ListN.{length, length-append}
-use mathlib.Core.List.{[], _∷_}
+use Prim.Native.Nat.{ℕ, _/_, _%_, _<_}
 use native.Mathlib.Omega.{arith}
 use borrow.Author.Needs.{needs}
 use borrow.Fn.Kinds.{In}
 use borrow.Fn.PlainCycle.{Measures, is, falls, and}
 use Rattle.stores.proofs.Written.{written-append}
-use Rattle.text.specs.Number.{decimal}
-use Rattle.text.proofs.Digits.{decimal-digit, decimal-more}
+use Rattle.text.specs.Number.{decimal, fourDigits}
+use Rattle.text.proofs.Digits.{decimal-four-more, length-four-more}
 use Rattle.text.proofs.output.write_decimal.Reads as write-decimal
 use Rattle.text.proofs.output.write_decimal.Kinds as write-decimal-kinds
 use Rattle.text.proofs.output.+write_decimal.Lts-write_decimal as write-decimal-lts
-use Rattle.text.proofs.output.write_byte.Reads as write-byte-reads
+use Rattle.text.proofs.output.write_four.Reads as write-four-reads
+use Rattle.text.proofs.output.write_short.Reads as write-short-reads
 use Rattle.text.proofs.output.+write_decimal.{statement}
 use Rattle.text.proofs.output.+write_decimal.Tie.{close}
 
@@ -33,42 +31,26 @@ write-decimal-below t =
     (falls 1 write-decimal-kinds.ps _<_ μ-write-decimal t)
     write-decimal.Pre
 
--- What `write_byte` asks and promises, and `write_decimal` itself below the measure t.
+-- What `write_short` and `write_four` ask and promise, and `write_decimal` itself below the measure t.
 abbrev learnt : ℕ → write-decimal-lts.Claims
-learnt t = (write-byte-reads.Asked, write-byte-reads.Learnt, write-decimal-below t, write-decimal.Post)
+learnt t = (write-short-reads.Asked, write-short-reads.Learnt, write-decimal-below t, write-decimal.Post, write-four-reads.Asked, write-four-reads.Learnt)
 
-write-decimal-cast-digit : (t : ℕ) → write-decimal-lts.Need-cast-digit (learnt t) (write-decimal-at t) write-decimal.Post
-write-decimal-cast-digit t c = search needs
-
-write-decimal-add-write-byte : (t : ℕ) → write-decimal-lts.Need-add-write-byte (learnt t) (write-decimal-at t) write-decimal.Post
-write-decimal-add-write-byte t c = search needs
-
-write-decimal-write-byte-requires : (t : ℕ) → write-decimal-lts.Need-write-byte-requires (learnt t) (write-decimal-at t) write-decimal.Post
-write-decimal-write-byte-requires t c κs =
-    let size : length (decimal (c .before .before .before .args .n)) ≡ 1 = rw (decimal-digit (c .before .before .before .args .n) (c .before .if1 .taken)) in
-    omega (arith, c .before .before .before .pre .1)
+write-decimal-write-short-requires : (t : ℕ) → write-decimal-lts.Need-write-short-requires (learnt t) (write-decimal-at t) write-decimal.Post
+write-decimal-write-short-requires t c κs = (c .before .if1 .taken, c .before .before .before .pre .1)
 
 write-decimal-same-length : (t : ℕ) → write-decimal-lts.Need-same-length (learnt t) (write-decimal-at t) write-decimal.Post
 write-decimal-same-length t c = search needs
 
 write-decimal-returns : (t : ℕ) → write-decimal-lts.Need-returns (learnt t) (write-decimal-at t) write-decimal.Post
-write-decimal-returns t c =
-    rw (decimal-digit (c .before .before .before .before .before .before .args .n) (c .before .before .before .before .if1 .taken)) (c .before .before .write-byte .ensures)
+write-decimal-returns t c = c .before .before .write-short .ensures
 
 write-decimal-write-decimal-requires : (t : ℕ) → write-decimal-lts.Need-write-decimal-requires (learnt t) (write-decimal-at t) write-decimal.Post
 write-decimal-write-decimal-requires t c κs =
-    let n = c .before .before .before .args .n in
-    let size : length (decimal n) ≡ length (decimal (n / 10)) + 1 = ap length (decimal-more n (search needs) (search needs)) ∙ length-append (decimal (n / 10)) _ in
-    (omega (arith, c .before .before .before .pre .0), omega (arith, c .before .before .before .pre .1))
+    (omega (arith, c .before .before .before .pre .0, c .before .if1 .left), omega (arith, c .before .before .before .pre .1, length-four-more (c .before .before .before .args .n) (c .before .if1 .left) (search needs)))
 
-write-decimal-add-write-byte-2 : (t : ℕ) → write-decimal-lts.Need-add-write-byte-2 (learnt t) (write-decimal-at t) write-decimal.Post
-write-decimal-add-write-byte-2 t c = search needs
-
-write-decimal-write-byte-requires-2 : (t : ℕ) → write-decimal-lts.Need-write-byte-requires-2 (learnt t) (write-decimal-at t) write-decimal.Post
-write-decimal-write-byte-requires-2 t c κs =
-    let n = c .before .before .before .before .before .before .before .args .n in
-    let size : length (decimal n) ≡ length (decimal (n / 10)) + 1 = ap length (decimal-more n (search needs) (search needs)) ∙ length-append (decimal (n / 10)) _ in
-    omega (arith, c .before .before .before .before .before .before .before .pre .1, c .before .before .before .write-decimal .ensures .behind)
+write-decimal-write-four-requires : (t : ℕ) → write-decimal-lts.Need-write-four-requires (learnt t) (write-decimal-at t) write-decimal.Post
+write-decimal-write-four-requires t c κs =
+    (omega arith, omega (arith, c .before .before .before .before .before .before .before .pre .1, length-four-more (c .before .before .before .before .before .before .before .args .n) (c .before .before .before .before .before .if1 .left) (search needs), c .before .before .before .write-decimal .ensures .behind))
 
 write-decimal-same-length-2 : (t : ℕ) → write-decimal-lts.Need-same-length-2 (learnt t) (write-decimal-at t) write-decimal.Post
 write-decimal-same-length-2 t c = search needs
@@ -76,20 +58,17 @@ write-decimal-same-length-2 t c = search needs
 write-decimal-returns-2 : (t : ℕ) → write-decimal-lts.Need-returns-2 (learnt t) (write-decimal-at t) write-decimal.Post
 write-decimal-returns-2 t c =
     let n = c .before .before .before .before .before .before .before .before .before .before .args .n in
-    rw (decimal-more n (search needs) (search needs))
-    (written-append (decimal (n / 10)) (_ ∷ []) _ _ _ _ _ _ (omega (arith, c .before .before .before .before .before .before .before .before .before .before .pre .1)) (c .before .before .before .before .before .before .write-decimal .ensures) (c .before .before .write-byte2 .ensures))
+    rw (decimal-four-more n (c .before .before .before .before .before .before .before .before .if1 .left) (search needs))
+    (written-append (decimal (n / 10000)) (fourDigits (n % 10000)) _ _ _ _ _ _ (omega (arith, c .before .before .before .before .before .before .before .before .before .before .pre .1)) (c .before .before .before .before .before .before .write-decimal .ensures) (c .before .before .write-four .ensures))
 
 pub +write-decimal-spec : {M : Type 1} → statement M
 +write-decimal-spec = close μ-write-decimal λ t. write-decimal-lts.spec (learnt t)
     (write-decimal-at t)
     write-decimal.Post
-    (write-decimal-cast-digit t)
-    (write-decimal-add-write-byte t)
-    (write-decimal-write-byte-requires t)
+    (write-decimal-write-short-requires t)
     (write-decimal-same-length t)
     (write-decimal-returns t)
     (write-decimal-write-decimal-requires t)
-    (write-decimal-add-write-byte-2 t)
-    (write-decimal-write-byte-requires-2 t)
+    (write-decimal-write-four-requires t)
     (write-decimal-same-length-2 t)
     (write-decimal-returns-2 t)

@@ -5,7 +5,6 @@ use native.Mathlib.Omega.{arith}
 use borrow.Author.Needs.{needs}
 use Rattle.stores.proofs.Written.{written-append}
 use Rattle.text.specs.Number.{decimal}
-use Rattle.text.proofs.Digits.{length-decimal}
 use Rattle.text.proofs.output.write_field.Statement.{statement}
 use Rattle.text.proofs.output.write_field.Tie as tie
 
@@ -14,7 +13,7 @@ write-byte-requires c κs = search needs
 
 write-decimal-requires : tie.Need-write-decimal-requires
 write-decimal-requires c κs =
-    omega (arith, length-decimal (c .before .before .before .before .before .before .args .n), c .before .before .before .write-byte .ensures .behind)
+    omega (arith, c .before .before .before .before .before .before .pre, c .before .before .before .write-byte .ensures .behind)
 
 same-length : tie.Need-same-length
 same-length c = search needs

@@ -1,0 +1,10 @@
+-- The laws of the month board.
+pub mod Samples
+pub mod Jobs
+pub mod Lookups
+pub mod Lines
+pub mod Found
+pub mod Printing
+pub mod Year
+pub mod Cases
+pub mod ReadBack

@@ -1,0 +1,54 @@
+-- `board::line::write_line` meets its contract.
+-- Assumes nothing.
+use native.Mathlib.Omega.{arith}
+use borrow.Author.Needs.{needs}
+use Rattle.board.proofs.Lines.{length-line-of, line-written}
+use Rattle.board.proofs.line.write_line.Statement.{statement}
+use Rattle.board.proofs.line.write_line.Tie as tie
+
+write-name-requires : tie.Need-write-name-requires
+write-name-requires c κs =
+    omega (arith, length-line-of (c .before .before .args .name) (c .before .before .args .number) (c .before .before .args .pages), c .before .before .pre)
+
+write-field-requires : tie.Need-write-field-requires
+write-field-requires c κs =
+    omega (arith, length-line-of (c .before .before .before .before .before .before .args .name) (c .before .before .before .before .before .before .args .number) (c .before .before .before .before .before .before .args .pages), c .before .before .before .before .before .before .pre, c .before .before .before .write-name .ensures .behind)
+
+write-field-requires-2 : tie.Need-write-field-requires-2
+write-field-requires-2 c κs =
+    omega (
+      arith,
+      length-line-of (c .before .before .before .before .before .before .before .before .before .before .args .name) (c .before .before .before .before .before .before .before .before .before .before .args .number) (c .before .before .before .before .before .before .before .before .before .before .args .pages),
+      c .before .before .before .before .before .before .before .before .before .before .pre,
+      c .before .before .before .before .before .before .before .write-name .ensures .behind,
+      c .before .before .before .write-field .ensures .behind,
+    )
+
+write-byte-requires : tie.Need-write-byte-requires
+write-byte-requires c κs =
+    omega (
+      arith,
+      length-line-of (c .before .before .before .before .before .before .before .before .before .before .before .before .before .before .args .name) (c .before .before .before .before .before .before .before .before .before .before .before .before .before .before .args .number) (c .before .before .before .before .before .before .before .before .before .before .before .before .before .before .args .pages),
+      c .before .before .before .before .before .before .before .before .before .before .before .before .before .before .pre,
+      c .before .before .before .before .before .before .before .before .before .before .before .write-name .ensures .behind,
+      c .before .before .before .before .before .before .before .write-field .ensures .behind,
+      c .before .before .before .write-field2 .ensures .behind,
+    )
+
+same-length : tie.Need-same-length
+same-length c = search needs
+
+returns : tie.Need-returns
+returns c =
+    line-written _ _ (omega (arith, c .before .before .before .before .before .before .before .before .before .before .before .before .before .before .before .before .before .pre)) _ _ _ _ _ _ _ _ _ _ _ (c .before .before .before .before .before .before .before .before .before .before .before .before .before .before .write-name .ensures) (c .before .before .before .before .before .before .before .before .before .before .write-field .ensures) (c .before .before .before .before .before .before .write-field2 .ensures) (c .before .before .write-byte .ensures)
+
+pub write-line-spec : {M : Type 1} → statement M
+write-line-spec =
+    tie.close
+    (tie.spec
+    write-name-requires
+    write-field-requires
+    write-field-requires-2
+    write-byte-requires
+    same-length
+    returns)

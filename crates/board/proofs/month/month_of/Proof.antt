@@ -1,0 +1,32 @@
+-- `board::month::month_of` meets its contract.
+-- Assumes nothing.
+use mathlib.Core.Path.{refl}
+use borrow.Author.Needs.{needs}
+use Rattle.board.specs.Print.{monthName}
+use Rattle.board.proofs.month.month_of.Statement.{statement}
+use Rattle.board.proofs.month.month_of.Tie as tie
+
+sub-m : tie.Need-sub-m
+sub-m c = search needs
+
+mul-t18 : tie.Need-mul-t18
+mul-t18 c = search needs
+
+array-copy-out-t21 : tie.Need-array-copy-out-t21
+array-copy-out-t21 c = search needs
+
+returns : tie.Need-returns
+unfolding monthName
+returns c = (
+  refl,
+  refl,
+  record {
+    year-high = c .before .pre .0;
+    month-low = c .before .pre .1;
+    month-high = c .before .pre .2;
+    name-is = search needs;
+  },
+)
+
+pub month-of-spec : {M : Type 1} → statement M
+month-of-spec = tie.close (tie.spec sub-m mul-t18 array-copy-out-t21 returns)

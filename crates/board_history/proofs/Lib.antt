@@ -1,0 +1,3 @@
+-- The history rule over the board's calls.
+pub mod Samples
+pub mod Theorem

@@ -1,0 +1,74 @@
+-- The history rule for the month board: runs of its calls, between which the index's own calls format and mend its array.
+-- Assumes nothing.
+use Prim.Native.Nat.{ℕ}
+use mathlib.Core.Path.{_≡_}
+use mathlib.Core.Bool.{true}
+use mathlib.Core.List.{List}
+use mathlib.Core.Option.{Option, none, some}
+use Rattle.stores.specs.Plan.{Outcome}
+use Rattle.replies.specs.declared.Refusal.{Refusal}
+use Rattle.rules.specs.declared.Call.the-variants.{Get}
+use Rattle.replies.specs.Replies.{Said}
+use Rattle.rules.specs.Step.{step}
+use Rattle.runs.specs.Map.{View, gets, puts, removes as takes, keeps, mapSays}
+use Rattle.runs.specs.Run.{Machine, Point, start, claimedAtEnd, finish, validRun, AgreesWithMap}
+use Rattle.history.specs.History.{viewOf, Request, Formatted}
+use Rattle.board.specs.Jobs.{jobKey, jobTests, setJob, readJob, removeJob}
+use Rattle.board.specs.Print.{printYear}
+
+-- A call of a run: the board's, or one of the index's own. A print is made with a buffer of `room` bytes.
+pub data BoardCall : Type 0 where
+  sets : (year month number pages allowance : ℕ) → BoardCall
+  reads : (year month number : ℕ) → BoardCall
+  removes : (year month number allowance : ℕ) → BoardCall
+  prints : (year room : ℕ) → BoardCall
+  calls : Request → BoardCall
+
+-- What a call says, and the array it leaves.
+abbrev pub boardStep : List ℕ → BoardCall → Outcome Said
+boardStep a (sets year month number pages allowance) = setJob a year month number pages allowance
+boardStep a (reads year month number) = readJob a year month number
+boardStep a (removes year month number allowance) = removeJob a year month number allowance
+boardStep a (prints year room) = record { reply = (printYear a year room) .reply; made = 0; after = a }
+boardStep a (calls r) = step a (r .room) (r .call)
+
+-- What the map is told of a call behind tests: nothing where they refuse.
+abbrev pub viewBehind : Option Refusal → View → View
+viewBehind none view = view
+viewBehind (some r) view = keeps
+
+-- What the map is told of a call: a set is a put of the job's key, a read a get, a remove a remove.
+abbrev pub boardView : BoardCall → View
+boardView (sets year month number pages allowance) = viewBehind (jobTests year month number) (puts (jobKey year month number) pages)
+boardView (reads year month number) = viewBehind (jobTests year month number) (gets (jobKey year month number))
+boardView (removes year month number allowance) = viewBehind (jobTests year month number) (takes (jobKey year month number))
+boardView (prints year room) = keeps
+boardView (calls r) = viewOf (r .call)
+
+-- The board, by the definitions. Any call can be made on any array.
+abbrev pub board : Machine
+board =
+    record {
+      Call = BoardCall;
+      Made = λ a c. Unit {0};
+      step = boardStep;
+      view = boardView;
+      Says = λ a key said. said ≡ (step a 0 (Get key)) .reply;
+      cutNeedsRecovery = true;
+    }
+
+-- The history rule: from every array that a format has just left with reply done, every valid run of the board's calls agrees
+-- with the map.
+abbrev pub BoardHistoryRule : Type 0
+BoardHistoryRule =
+    (a : List ℕ) → Formatted a → (run : List BoardCall) → validRun board (start a) run ≡ true → AgreesWithMap board (start a) run
+
+-- In the words of the board: after every such run that does not wait for a mend, a read of a job says the pages that it was last
+-- set to by a done set, or absent, whatever was cut or refused in between.
+abbrev pub JobsReadBack : Type 0
+JobsReadBack =
+    (a : List ℕ) → Formatted a → (run : List BoardCall) → validRun board (start a) run ≡ true
+    → claimedAtEnd (finish board (start a) run .needsRecovery) ≡ true
+    → (year month number : ℕ) → jobTests year month number ≡ none
+    → (readJob (finish board (start a) run .array) year month number) .reply
+    ≡ mapSays (finish board (start a) run .map (jobKey year month number))

@@ -1,0 +1,2 @@
+-- The history rule over the board's calls.
+pub mod BoardHistory

@@ -1,0 +1,25 @@
+-- `text::output::write_four` meets its contract.
+-- Assumes nothing.
+use Prim.Native.Nat.{_/_, _%_}
+use native.Mathlib.Omega.{arith}
+use borrow.Author.Needs.{needs}
+use Rattle.stores.proofs.Written.{written-append}
+use Rattle.text.specs.Number.{twoDigits}
+use Rattle.text.proofs.output.write_four.Statement.{statement}
+use Rattle.text.proofs.output.write_four.Tie as tie
+
+write-two-requires : tie.Need-write-two-requires
+write-two-requires c κs = (omega (arith, c .before .before .pre .0), omega (arith, c .before .before .pre .1))
+
+write-two-requires-2 : tie.Need-write-two-requires-2
+write-two-requires-2 c κs = (omega arith, omega (arith, c .before .before .before .before .before .before .pre .1, c .before .before .before .write-two .ensures .behind))
+
+same-length : tie.Need-same-length
+same-length c = search needs
+
+returns : tie.Need-returns
+returns c =
+    written-append (twoDigits (c .before .before .before .before .before .before .before .before .before .args .n / 100)) (twoDigits (c .before .before .before .before .before .before .before .before .before .args .n % 100)) _ _ _ _ _ _ (omega (arith, c .before .before .before .before .before .before .before .before .before .pre .1)) (c .before .before .before .before .before .before .write-two .ensures) (c .before .before .write-two2 .ensures)
+
+pub write-four-spec : {M : Type 1} → statement M
+write-four-spec = tie.close (tie.spec write-two-requires write-two-requires-2 same-length returns)
