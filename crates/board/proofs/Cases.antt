@@ -1,6 +1,6 @@
 -- The four cases of a print, in document 02's words; and that the order in which jobs are looked up does not matter.
 -- Assumes nothing.
-use Prim.Native.Nat.{ℕ, zero, suc, _+_, _-_, _≤_, _<_}
+use Prim.Native.Nat.{ℕ, suc, _-_, _≤_, _<_}
 use mathlib.Core.Path.{_≡_, refl, sym, ap, _∙_}
 use mathlib.Core.Bool.{true, false}
 use mathlib.Core.List.{List, [], _∷_, List·Memᴰ, List·Memᴰ·head, List·Memᴰ·tail, List·Memᴰ·not-nil, List·Memᴰ·cases-cons, List·Memᴰ·eq-of-singleton}
@@ -12,8 +12,7 @@ use lib.Dec.{leb}
 use Rattle.stores.proofs.Lists.{mem-each, each-mem, some-none}
 use Rattle.stores.proofs.Tests.{cases}
 use Rattle.replies.specs.Replies.{Said, done, absent, refused}
-use Rattle.replies.proofs.Outcomes.{refused-not-done, refused-inj}
-use Rattle.rules.specs.Get.{get}
+use Rattle.replies.proofs.Outcomes.{refused-not-done}
 use Rattle.rules.proofs.Lookups.{lookup-refused, lookups-refused-same}
 use Rattle.board.specs.Jobs.{validYear, jobKey}
 use Rattle.board.specs.Print.{Lookup, lookup, yearLookups, firstRefusal, refusedIn, allNumbers, printYear}

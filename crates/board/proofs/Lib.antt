@@ -6,5 +6,6 @@ pub mod Lines
 pub mod Found
 pub mod Printing
 pub mod Year
+pub mod Limits
 pub mod Cases
 pub mod ReadBack

@@ -1,9 +1,9 @@
 -- The line of a job: the months' names, and how long it is.
 -- Assumes nothing.
-use Prim.Native.Nat.{ℕ, zero, suc, _+_, _-_, _*_, _≤_, _<_}
-use mathlib.Core.Path.{_≡_, refl, sym, ap, _∙_}
-use mathlib.Core.Bool.{Bool, true}
-use mathlib.Core.List.{List, [], _∷_, _++_, append-nil}
+use Prim.Native.Nat.{ℕ, _+_, _-_, _≤_}
+use mathlib.Core.Path.{_≡_, refl}
+use mathlib.Core.Bool.{true}
+use mathlib.Core.List.{List, [], _∷_, _++_}
 use native.Mathlib.Omega.{arith}
 use borrow.Author.Tests.{eqb-true}
 use lib.Dec.{eqb}
@@ -14,9 +14,7 @@ use Rattle.stores.proofs.Lists.{all-at}
 use Rattle.stores.proofs.Written.{written-append}
 use Rattle.text.specs.Parts.{tab, lineFeed}
 use Rattle.text.specs.Number.{decimal}
-use Rattle.text.proofs.Digits.{length-decimal}
-use Rattle.replies.specs.Replies.{Said, done, absent, refused}
-use Rattle.board.specs.Print.{monthNames, monthName, Job, job, lineOf, jobLine, textOf, Lookup, jobFound, jobsIn, linesIn}
+use Rattle.board.specs.Print.{monthNames, monthName, job, lineOf, jobLine}
 
 -- ---- Names
 

@@ -2,7 +2,7 @@
 -- Assumes nothing.
 use Prim.Native.Nat.{ℕ, zero, suc, _+_, _*_, _≤_, _<_}
 use mathlib.Core.Path.{_≡_, refl, sym, ap, _∙_}
-use mathlib.Core.List.{List, [], _∷_, _++_, append-assoc, append-nil}
+use mathlib.Core.List.{List, [], _∷_, _++_, append-assoc}
 use mathlib.Core.Option.{Option, none, some}
 use mathlib.Core.Logic.{⊎-elim}
 use native.Mathlib.Nat.{le-refl, le-step, mul-suc, eq-or-lt-of-le, le-of-suc-le-suc}
@@ -10,14 +10,12 @@ use native.Mathlib.Omega.{arith}
 use lib.ListN.{length, length-append}
 use Rattle.stores.specs.Lists.{each}
 use Rattle.stores.specs.Written.{Written}
-use Rattle.stores.proofs.Lists.{each-zero, each-suc, each-same, some-none}
+use Rattle.stores.proofs.Lists.{each-zero, each-suc, some-none}
 use Rattle.stores.proofs.Written.{written-none, written-append}
 use Rattle.replies.specs.declared.Refusal.{Refusal}
 use Rattle.replies.specs.Replies.{Said, done, absent, refused, numberOf}
-use Rattle.rules.specs.Get.{get}
 use Rattle.board.specs.declared.count.Counted.{Counted}
 use Rattle.board.specs.declared.count.Counted.the-variants.{Bytes, Refused}
-use Rattle.board.specs.Jobs.{jobKey}
 use Rattle.board.specs.Print.{Job, jobLine, textOf, Lookup, lookup, monthLookups, yearLookups, jobFound, jobsIn, linesIn, firstRefusal, refusedIn, allNumbers}
 use Rattle.board.specs.Passes.{bytesOf, CountedBy, Fit}
 

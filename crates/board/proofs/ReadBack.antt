@@ -2,7 +2,7 @@
 -- Assumes nothing.
 use Prim.Native.Nat.{ℕ, suc, _+_, _-_, _^_, _≤_, _<_}
 use mathlib.Core.Path.{_≡_, refl, sym, ap, _∙_}
-use mathlib.Core.Bool.{Bool, true, false, not, _&&_}
+use mathlib.Core.Bool.{Bool, true, false, _&&_}
 use mathlib.Core.List.{List, [], _∷_, _++_, append-assoc, List·Memᴰ, List·Memᴰ·head, List·Memᴰ·tail}
 use mathlib.Core.Option.{Option, none, some}
 use native.Mathlib.Omega.{arith}
@@ -12,15 +12,15 @@ use lib.ListN.{length, take, drop, getD, length-append}
 use lib.Seq.{take-at}
 use Rattle.stores.specs.Lists.{allBelow, numbersSame}
 use Rattle.stores.proofs.Lists.{all-at}
-use Rattle.stores.proofs.Tests.{and-left, and-right, and-true}
+use Rattle.stores.proofs.Tests.{and-left, and-right}
 use Rattle.rules.proofs.Lookups.{found-below}
-use Rattle.text.specs.Parts.{tab, lineFeed, linesOf, fieldsOf}
+use Rattle.text.specs.Parts.{tab, lineFeed, fieldsOf}
 use Rattle.text.specs.Number.{number, decimal}
 use Rattle.text.proofs.Digits.{number-decimal}
 use Rattle.text.proofs.Lines.{lines-none}
 use Rattle.text.proofs.Joined.{without, without-append, decimal-without, parts-alone, parts-joined, lines-joined}
-use Rattle.board.specs.Jobs.{validMonth, validNumber, jobKey}
-use Rattle.board.specs.Print.{monthNames, monthName, Job, job, lineOf, jobLine, textOf, yearLookups, jobsIn, linesIn, allNumbers}
+use Rattle.board.specs.Jobs.{validMonth, jobKey}
+use Rattle.board.specs.Print.{monthNames, monthName, Job, lineOf, jobLine, textOf, yearLookups, jobsIn, linesIn, allNumbers}
 use Rattle.board.specs.Passes.{bytesOf}
 use Rattle.board.specs.ReadBack.{monthFrom, monthNamed, jobOf, jobOfFields, inFront, jobsOfLines, jobsRead}
 use Rattle.board.specs.Claims.{JobsOfYear, ReadsBack}

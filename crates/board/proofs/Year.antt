@@ -2,17 +2,16 @@
 -- Assumes nothing.
 use Prim.Native.Nat.{ℕ, zero, suc, _+_, _-_, _*_, _≤_, _<_}
 use mathlib.Core.Path.{_≡_, refl, sym, ap, _∙_}
-use mathlib.Core.Bool.{true}
 use mathlib.Core.List.{List, [], _∷_, _++_, append-nil, List·Memᴰ, List·Memᴰ·head, List·Memᴰ·tail, List·Memᴰ·not-nil, List·Memᴰ·append-cases, List·Memᴰ·eq-of-singleton}
 use mathlib.Core.Logic.{⊎-elim}
 use native.Mathlib.Nat.{le-refl, le-step}
 use native.Mathlib.Omega.{arith}
 use Rattle.stores.specs.Lists.{each}
-use Rattle.stores.proofs.Lists.{each-zero, each-suc, each-same, mem-each, each-mem}
+use Rattle.stores.proofs.Lists.{each-same, mem-each, each-mem}
 use Rattle.replies.specs.Replies.{Said, done, absent, refused}
 use Rattle.rules.specs.Get.{get}
 use Rattle.rules.proofs.Lookups.{GetSays, finds, misses, no-store, no-key, broken, get-says}
-use Rattle.board.specs.Jobs.{validMonth, validNumber, jobKey}
+use Rattle.board.specs.Jobs.{jobKey}
 use Rattle.board.specs.Print.{Job, job, Lookup, yearLookups, jobFound, jobsIn, allNumbers}
 use Rattle.board.specs.Claims.{placeOf, Rising, JobsOfYear}
 use Rattle.board.proofs.Jobs.{month-bounds, month-valid, number-bound, number-valid}

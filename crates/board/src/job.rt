@@ -1,7 +1,6 @@
 // A job: which year, month and number there are, and its key.
 use replies::Refusal;
 ghost use mathlib.Core.Path.{_≡_};
-ghost use mathlib.Core.Bool.{true};
 ghost use Prim.Native.Nat.{_≤_};
 ghost use Rattle.board.specs.Jobs.{validYear, validMonth, validNumber, jobKey, KeyedBy};
 

@@ -1,6 +1,6 @@
 // The line of a job: its length, and its bytes.
 use text::LINE_FEED;
-use text::output::decimal_length;
+use text::number::decimal_length;
 use text::output::write_byte;
 use text::output::write_field;
 ghost use mathlib.Core.Path.{_≡_};

@@ -11,10 +11,8 @@ const SEGMENTS: u64 = 16;
 
 const WORDS: usize = 2080;
 
-const ALL_STORES: u32 = 4294967295;
-
 // Room for the lines of a year with few jobs.
-const ROOM: usize = 1024;
+const ROOM: usize = 256;
 
 // Writes a text, a number and a line end.
 fn report(text: &[u8], number: u64) {
@@ -25,7 +23,7 @@ fn report(text: &[u8], number: u64) {
 
 // Sets a job, and says so where it is refused.
 fn enter(words: &mut [u64], year: u64, month: u64, number: u64, pages: u64) {
-    let answer = board::set(words, year, month, number, pages, ALL_STORES);
+    let answer = board::set(words, year, month, number, pages, u32::MAX);
     let reply = answer.reply;
     if let Reply::Refused(refusal) = reply {
         report(b"set refused: ", refusal_number(refusal) as u64);
@@ -57,13 +55,19 @@ fn show(words: &[u64], year: u64) {
     }
 }
 
+// Keeps a board in the array and prints it.
+fn keep_board(words: &mut [u64]) {
+    index::format(words, DEPTH, SEGMENTS, u32::MAX);
+    enter_jobs(words);
+    show(words, 2026);
+    board::remove(words, 2026, 3, 12, u32::MAX);
+    show(words, 2026);
+    show(words, 2025);
+    show(words, 10000);
+}
+
+// The words are all 0 before.
 fn main() {
     let mut words = [0u64; WORDS];
-    index::format(&mut words, DEPTH, SEGMENTS, ALL_STORES);
-    enter_jobs(&mut words);
-    show(&words, 2026);
-    board::remove(&mut words, 2026, 3, 12, ALL_STORES);
-    show(&words, 2026);
-    show(&words, 2025);
-    show(&words, 10000);
+    keep_board(&mut words);
 }

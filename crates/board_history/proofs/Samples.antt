@@ -2,7 +2,7 @@
 -- Assumes nothing.
 use Prim.Native.Nat.{ℕ, _+_, _*_}
 use mathlib.Core.Path.{_≡_, refl}
-use mathlib.Core.Bool.{Bool, true, false, not, _&&_}
+use mathlib.Core.Bool.{Bool, true, not, _&&_}
 use mathlib.Core.List.{List, [], _∷_, _++_}
 use mathlib.Core.Option.{Option, none, some}
 use lib.ListN.{replicate}
@@ -13,7 +13,7 @@ use Rattle.rules.specs.declared.Call.the-variants.{Format, Get, Mend}
 use Rattle.rules.specs.Step.{step}
 use Rattle.rules.proofs.Table.{computed}
 use Rattle.runs.specs.Map.{Map, empty, updated, fed, mapSays}
-use Rattle.runs.specs.Run.{Point, start, mayFollow, isRecovery, recoveryAfter, claimedAtEnd, claimed, next, finish, validRun}
+use Rattle.runs.specs.Run.{start, mayFollow, isRecovery, recoveryAfter, claimedAtEnd, claimed, next, finish, validRun}
 use Rattle.runs.specs.Check.{getAgrees, callsAgree, getsAgree, agrees}
 use Rattle.board.specs.Jobs.{validYear, validMonth, validNumber, jobKey, yearTests, jobTests, behind, onJob}
 use Rattle.board_history.specs.BoardHistory.{BoardCall, sets, reads, removes, calls, board}

@@ -11,7 +11,7 @@ use Rattle.rules.specs.declared.Call.the-variants.{Get}
 use Rattle.replies.specs.Replies.{Said}
 use Rattle.rules.specs.Step.{step}
 use Rattle.runs.specs.Map.{View, gets, puts, removes as takes, keeps, mapSays}
-use Rattle.runs.specs.Run.{Machine, Point, start, claimedAtEnd, finish, validRun, AgreesWithMap}
+use Rattle.runs.specs.Run.{Machine, start, claimedAtEnd, finish, validRun, AgreesWithMap}
 use Rattle.history.specs.History.{viewOf, Request, Formatted}
 use Rattle.board.specs.Jobs.{jobKey, jobTests, setJob, readJob, removeJob}
 use Rattle.board.specs.Print.{printYear}

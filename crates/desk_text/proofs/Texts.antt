@@ -14,7 +14,7 @@ use Rattle.replies.specs.declared.Reply.the-variants.{Done, Value, Absent, Refu
 use Rattle.replies.specs.Replies.{numberOf, saidBy}
 use Rattle.replies.proofs.Numbers.{number-below-100}
 use Rattle.text.specs.Parts.{tab, lineFeed}
-use Rattle.text.specs.Number.{decimal, spelled}
+use Rattle.text.specs.Number.{decimal}
 use Rattle.desk_text.specs.Output.{replyText, valuesText, endText, answerLine, lineRoom}
 use Rattle.text.proofs.Digits.{length-decimal, length-below-100}
 

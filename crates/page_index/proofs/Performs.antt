@@ -1,10 +1,11 @@
--- Each C function's promise is a performed call, so a chain of C calls is a chain of performed calls, and the history rule over
--- those (`performed-history-rule` of `history`) speaks of it.
+-- The promise of each C function of the index, and of each of the board's on one job, is a performed call. So a chain of C calls is
+-- a chain of performed calls, and the history rule over those (`performed-history-rule` of `history`) speaks of it.
 -- Assumes nothing.
 use Prim.Native.Nat.{ℕ}
 use mathlib.Core.Path.{_≡_, refl, sym}
 use mathlib.Core.Bool.{Bool, false}
 use mathlib.Core.List.{List}
+use mathlib.Core.Option.{none}
 use lib.ListN.{length}
 use Rattle.stores.specs.Plan.{Outcome}
 use Rattle.replies.specs.declared.Answer.{Answer}
@@ -15,6 +16,7 @@ use Rattle.rules.specs.Step.{step, lists, Performed}
 use Rattle.replies.proofs.Sayable.{Sayable}
 use Rattle.rules.proofs.Said.{step-sayable}
 use Rattle.index.proofs.Performs.{answered-performed}
+use Rattle.board.specs.Jobs.{jobKey, jobTests, behind, onJob}
 use Rattle.page_index.specs.declared.PageIndexReply.{PageIndexReply}
 use Rattle.page_index.specs.Told.{Tells, Told, ToldList}
 use Rattle.page_index.proofs.Tellings.{tells-same}
@@ -53,3 +55,11 @@ module _ (a l : List ℕ) (r : PageIndexReply) where
         performed = record { reply = s .says; stores = refl; words = t .told .words; listed = t .listed };
         tells = answer-tells (step a (length l) ListCall) s r (t .told .answer);
       }
+
+  -- What `month_board_set`, `_read` and `_remove` promise, where the board's tests pass: the index's call on the job's key.
+  pub job-told-performed : (year month number : ℕ) (call : ℕ → Call) → lists (call (jobKey year month number)) ≡ false
+      → jobTests year month number ≡ none → (a′ : List ℕ) → Told (onJob a year month number call) r a′
+      → ToldPerformed (call (jobKey year month number)) a l r a′ l
+  unfolding onJob behind
+  job-told-performed year month number call q passed a′ t =
+      told-performed (call (jobKey year month number)) q a′ (rw passed at t)

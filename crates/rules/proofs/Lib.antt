@@ -2,6 +2,7 @@
 pub mod Table
 pub mod States
 pub mod Samples
+pub mod Given
 pub mod Words
 pub mod Keys
 pub mod Scan

@@ -1,14 +1,17 @@
 -- Every reply of every call, on every array, is one that the code's enum has: done, done with one value, absent, or one of the
 -- refusals that document 01's table lists for that call.
 -- Assumes nothing.
-use Prim.Native.Nat.{ℕ, zero, suc}
-use mathlib.Core.Path.{_≡_, refl}
-use mathlib.Core.Bool.{Bool, true, false, not}
-use mathlib.Core.List.{List}
+use Prim.Native.Nat.{ℕ, zero, suc, _<_}
+use mathlib.Core.Path.{_≡_, refl, sym}
+use mathlib.Core.Bool.{Bool, true, false, true≢false, not, _&&_, _||_}
+use mathlib.Core.List.{List, [], _∷_}
 use mathlib.Core.Option.{Option, none, some}
-use lib.Dec.{leb, eqb}
+use mathlib.Core.Logic.{_⊎_, inl, inr, ⊎-elim}
+use borrow.Author.Tests.{eqb-true, ltb-true}
+use lib.Dec.{leb, ltb, eqb}
 use lib.ListN.{length}
 use Rattle.stores.specs.Plan.{Plan}
+use Rattle.stores.proofs.Tests.{and-left, and-right, or-cases}
 use Rattle.replies.specs.declared.Refusal.{Refusal}
 use Rattle.replies.specs.declared.Refusal.the-variants.{NoStore, NoKey, Broken, Unmended, TooDeep, NoSegment, BadShape, TooShort, ShortList}
 use Rattle.replies.specs.declared.Reply.the-variants.{Done, Value, Absent, Refused}
@@ -24,7 +27,7 @@ use Rattle.rules.specs.Get.{keyEntry, keySegment, keyTests, entryTests, 
 use Rattle.rules.specs.Put.{directoryTests, putTests, keyChoice, placed, intoFree, putUnused, unused, put}
 use Rattle.rules.specs.Remove.{removeTests, clearedAt, remove}
 use Rattle.rules.specs.Mend.{mendTests, mend}
-use Rattle.rules.specs.Listing.{records, listTests, list}
+use Rattle.rules.specs.Listing.{listTests, list}
 use Rattle.rules.specs.Step.{Effect, changes, answers, effect, carriedOut, step}
 use Rattle.rules.specs.Given.{refusalsOf, has, gives}
 use Rattle.rules.proofs.Refusals.{replyBy}
@@ -135,3 +138,34 @@ step-sayable a room call = carried-sayable (gives call) (effect a room call) a (
 -- A refusal of a call is one that the table lists for it.
 pub refusal-listed : (a : List ℕ) (room : ℕ) (call : Call) (n : ℕ) → (step a room call) .reply ≡ refused n → gives call n ≡ true
 refusal-listed a room call n e = refused-given (gives call) n (step-sayable a room call) e
+
+-- No call of the index gives 11, 12 or 13: they are the board's.
+allApart : List ℕ → Bool
+allApart [] = true
+allApart (x ∷ xs) = (ltb x 11 || ltb 13 x) && allApart xs
+
+apart : (call : Call) → allApart (refusalsOf call) ≡ true
+unfolding allApart refusalsOf
+apart (Format D S allowance) = refl
+apart (Get key) = refl
+apart (Put key value allowance) = refl
+apart (Remove key allowance) = refl
+apart (Mend allowance) = refl
+apart ListCall = refl
+
+has-apart : (xs : List ℕ) (n : ℕ) → allApart xs ≡ true → has xs n ≡ true → ltb n 11 || ltb 13 n ≡ true
+unfolding allApart has
+has-apart [] n h k = absurd (true≢false (sym k))
+has-apart (x ∷ xs) n h k =
+    ⊎-elim
+    (λ (e : eqb x n ≡ true). rw (eqb-true x n e) at (and-left (ltb x 11 || ltb 13 x) (allApart xs) h))
+    (λ (e : has xs n ≡ true). has-apart xs n (and-right (ltb x 11 || ltb 13 x) (allApart xs) h) e)
+    (or-cases (eqb x n) (has xs n) k)
+
+pub not-the-boards : (a : List ℕ) (room : ℕ) (call : Call) (n : ℕ) → (step a room call) .reply ≡ refused n → (n < 11) ⊎ (13 < n)
+unfolding gives
+not-the-boards a room call n e =
+    ⊎-elim
+    (λ (t : ltb n 11 ≡ true). inl (ltb-true n 11 t))
+    (λ (t : ltb 13 n ≡ true). inr (ltb-true 13 n t))
+    (or-cases (ltb n 11) (ltb 13 n) (has-apart (refusalsOf call) n (apart call) (refusal-listed a room call n e)))

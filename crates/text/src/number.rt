@@ -1,6 +1,7 @@
-// A number read from a field of a text.
+// Numbers in decimal digits: one read from a field of a text, and how many digits one has.
 ghost use mathlib.Core.Path.{_≡_};
-ghost use Rattle.text.specs.Number.{number, numberSaid, withDigit};
+ghost use lib.ListN.{length};
+ghost use Rattle.text.specs.Number.{number, numberSaid, withDigit, decimal};
 
 // The most digits of a number.
 const MOST_DIGITS: usize = 20;
@@ -50,4 +51,23 @@ pub fn read_number(field: &[u8]) -> Number
         value = next;
     }
     Number::Is(value)
+}
+
+// The number of n's decimal digits, counted by fours.
+pub fn decimal_length(n: u64) -> usize
+    ensures { λ r. ⌜ r ≡ length (decimal n) ⌝ }
+{
+    if n < 10 {
+        return 1;
+    }
+    if n < 100 {
+        return 2;
+    }
+    if n < 1000 {
+        return 3;
+    }
+    if n < 10000 {
+        return 4;
+    }
+    4 + decimal_length(n / 10000)
 }

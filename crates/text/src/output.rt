@@ -2,7 +2,6 @@
 // behind them.
 use crate::TAB;
 use crate::number::ZERO;
-ghost use mathlib.Core.Path.{_≡_};
 ghost use Prim.Native.Nat.{_+_, _≤_, _<_};
 ghost use mathlib.Core.List.{[], _∷_};
 ghost use lib.ListN.{length};
@@ -17,25 +16,6 @@ pub fn write_byte(byte: u8, out: &mut [u8], at: usize) -> usize
 {
     out[at] = byte;
     at + 1
-}
-
-// The number of n's decimal digits, counted by fours.
-pub fn decimal_length(n: u64) -> usize
-    ensures { λ r. ⌜ r ≡ length (decimal n) ⌝ }
-{
-    if n < 10 {
-        return 1;
-    }
-    if n < 100 {
-        return 2;
-    }
-    if n < 1000 {
-        return 3;
-    }
-    if n < 10000 {
-        return 4;
-    }
-    4 + decimal_length(n / 10000)
 }
 
 // Writes n, which is below 100, in two digits.

@@ -1,4 +1,4 @@
--- `text::output::decimal_length` meets its contract. The measure is the number itself.
+-- `text::number::decimal_length` meets its contract. The measure is the number itself.
 -- Assumes nothing.
 use mathlib.Core.Path.{sym, _∙_, ap}
 use Prim.Native.Nat.{ℕ, _+_, _/_, _<_}
@@ -7,11 +7,11 @@ use borrow.Author.Needs.{needs}
 use borrow.Fn.Kinds.{In}
 use borrow.Fn.PlainCycle.{Measures, is, falls, and}
 use Rattle.text.proofs.Digits.{length-decimal, length-one-digit, length-two-digits, length-three-digits, length-four-digits, length-four-more}
-use Rattle.text.proofs.output.decimal_length.Reads as decimal-length
-use Rattle.text.proofs.output.decimal_length.Kinds as decimal-length-kinds
-use Rattle.text.proofs.output.+decimal_length.Lts-decimal_length as decimal-length-lts
-use Rattle.text.proofs.output.+decimal_length.{statement}
-use Rattle.text.proofs.output.+decimal_length.Tie.{close}
+use Rattle.text.proofs.number.decimal_length.Reads as decimal-length
+use Rattle.text.proofs.number.decimal_length.Kinds as decimal-length-kinds
+use Rattle.text.proofs.number.+decimal_length.Lts-decimal_length as decimal-length-lts
+use Rattle.text.proofs.number.+decimal_length.{statement}
+use Rattle.text.proofs.number.+decimal_length.Tie.{close}
 
 abbrev μ-decimal-length : Measures 0 decimal-length-kinds.ps ℕ
 μ-decimal-length κs a = a .0
