@@ -52,8 +52,8 @@ enum page_index_code {
 
 /*
  * An answer. `stores` is the number of stores made in the array: 0 after the codes 1 to 4, 8 to 13 and
- * 255, and after every get and list. `value` is what a get found, or how many records a list wrote;
- * else 0.
+ * 255, and after every get, list, read and print. `value` is what a get or a read found, how many records
+ * a list or how many bytes a print wrote; else 0. (Read and print are of the board.)
  */
 struct page_index_reply {
     uint32_t code;

@@ -60,10 +60,10 @@ pub fn get(words: &[u64], key: u64) -> Answer
         Placed::At(place) => place,
         Placed::Refused(refusal) => return without_store(Reply::Refused(refusal)),
     };
-    let Hit::At(slot) = find_at(words, place) else {
+    let base = place.base;
+    let Hit::At(slot) = find_at(words, base, place.key) else {
         return without_store(Reply::Absent);
     };
-    let base = place.base;
     without_store(Reply::Value(words[base + 2 * slot + 1]))
 }
 
@@ -107,10 +107,10 @@ pub fn remove(words: &mut [u64], key: u64, allowance: u32) -> Answer
         Placed::At(place) => place,
         Placed::Refused(refusal) => return without_store(Reply::Refused(refusal)),
     };
-    let Hit::At(slot) = find_at(words, place) else {
+    let base = place.base;
+    let Hit::At(slot) = find_at(words, base, place.key) else {
         return without_store(Reply::Absent);
     };
-    let base = place.base;
     let due = store_word(words, base + 2 * slot, 0, allowance, 0);
     after_stores(Reply::Done, allowance, due)
 }

@@ -11,7 +11,8 @@ use segment::probe::Hit;
 use segment::probe::find;
 use stores::store_word;
 ghost use mathlib.Core.Path.{_≡_};
-ghost use Prim.Native.Nat.{_<_};
+ghost use Prim.Native.Nat.{_+_, _≤_, _<_};
+ghost use lib.ListN.{length};
 ghost use Rattle.rules.specs.Slots.{hit};
 ghost use Rattle.rules.specs.Put.{keyChoice};
 ghost use Rattle.replies.specs.Replies.{changed};
@@ -20,13 +21,12 @@ ghost use Rattle.segment.specs.Answers.{hitOf, choiceOf};
 ghost use Rattle.index.specs.Answered.{Answered};
 ghost use Rattle.index.specs.Slots.{valuePut, recordPut};
 
-// The first slot of the key's probe window that holds the key.
-pub(crate) fn find_at(words: &[u64], place: Place) -> Hit
-    requires { ⌜ KeyPlace place (now words) ⌝ }
-    ensures { λ r. ⌜ hitOf r ≡ hit (now (words .entry)) (place .base) (place .key) ⌝ }
+// The first slot of the key's probe window that holds the key, in the segment at `base`.
+pub(crate) fn find_at(words: &[u64], base: usize, key: u64) -> Hit
+    requires { ⌜ base + 128 ≤ length (now words) ⌝ }
+    ensures { λ r. ⌜ hitOf r ≡ hit (now (words .entry)) base key ⌝ }
 {
-    let base = place.base;
-    find(&words[base..base + SEGMENT_WORDS], place.key)
+    find(&words[base..base + SEGMENT_WORDS], key)
 }
 
 // The slot for a put of the key.

@@ -3,6 +3,7 @@
 use native.Mathlib.Omega.{arith}
 use mathlib.Core.Path.{ap}
 use Rattle.replies.specs.Replies.{saidBy}
+use Rattle.layout.proofs.Places.{place-bounds}
 use Rattle.index.proofs.Places.{stands, refused-by, found-hit, absent-hit, found-inside}
 use Rattle.index.proofs.Calls.{remove-refused, remove-absent, remove-done}
 use borrow.Author.Needs.{needs}
@@ -29,7 +30,7 @@ returns c =
     remove-refused _ _ _ _ _ (refused-by _ _ _ _ (c .before .before .before .before .place-to-change .ensures) _ (c .before .before .refusal .given .1)) (ap saidBy (c .without-store .ensures .0), c .without-store .ensures .1)
 
 find-at-requires : tie.Need-find-at-requires
-find-at-requires c κs = (stands _ _ _ _ (c .before .before .before .before .place-to-change .ensures) _ (c .before .before .place .given .1)) .2
+find-at-requires c κs = place-bounds ((stands _ _ _ _ (c .before .before .before .before .place-to-change .ensures) _ (c .before .before .place .given .1)) .2) .whole
 
 enum-known-slot : tie.Need-enum-known-slot
 enum-known-slot c = search needs

@@ -1,18 +1,16 @@
 -- `index::slot::find_at` meets its contract.
 -- Assumes nothing.
-use native.Mathlib.Omega.{arith}
 use mathlib.Core.Path.{_∙_}
-use Rattle.layout.proofs.Places.{place-bounds}
 use Rattle.segment.proofs.Parts.{span, part-hit}
 use borrow.Author.Needs.{needs}
 use Rattle.index.proofs.slot.find_at.Statement.{statement}
 use Rattle.index.proofs.slot.find_at.Tie as tie
 
 add-find : tie.Need-add-find
-add-find c = let p = place-bounds (c .before .pre) in omega arith
+add-find c = search needs
 
 mul-find : tie.Need-mul-find
-mul-find c = let p = place-bounds (c .before .pre) in omega arith
+mul-find c = search needs
 
 sub-find : tie.Need-sub-find
 sub-find c = search needs
@@ -21,7 +19,7 @@ part-find-start : tie.Need-part-find-start
 part-find-start c = search needs
 
 part-find-end : tie.Need-part-find-end
-part-find-end c = let p = place-bounds (c .before .pre) in omega arith
+part-find-end c = search needs
 
 find-requires : tie.Need-find-requires
 find-requires c κs = search needs
@@ -29,7 +27,7 @@ find-requires c κs = search needs
 returns : tie.Need-returns
 returns c =
     let a = c .before .before .before .args in
-    rw (span (a .place .base)) at (c .find .ensures) ∙ part-hit (a .words .now) (a .place .base) (place-bounds (c .before .before .before .pre) .whole) (a .place .key)
+    rw (span (a .base)) at (c .find .ensures) ∙ part-hit (a .words .now) (a .base) (c .before .before .before .pre) (a .key)
 
 pub find-at-spec : {M : Type 1} → statement M
 find-at-spec =
