@@ -23,6 +23,10 @@ using word = std::uint64_t;
 using Words = std::vector<word>;
 using Bytes = std::vector<std::uint8_t>;
 
+// The twin's print: how many bytes it has written. It is compiled apart (twin_print.cpp), since with it beside them
+// the compiler arranges the twin's other calls in another way.
+word twin_print(const word *words, std::size_t length, word year, std::uint8_t *buffer, std::size_t room);
+
 constexpr std::uint32_t all = 0xffffffff;
 // The cabinet: 4 MiB of words, D = 12, S = 4,032.
 constexpr word cabinet_depth = 12, cabinet_segments = 4032;
@@ -90,7 +94,7 @@ class Twin {
     void remove(word key) { remove_call(words.data(), words.size(), key); }
     word list(Words &out) const { return list_call(const_cast<word *>(words.data()), words.size(), out.data(), out.size()).value; }
     void mend() { mend_call(words.data(), words.size()); }
-    word print(word year, Bytes &out) const { return print_call(const_cast<word *>(words.data()), words.size(), year, out).value; }
+    word print(word year, Bytes &out) const { return twin_print(words.data(), words.size(), year, out.data(), out.size()); }
     std::size_t bytes() const { return 8 * words.size(); }
 
     [[gnu::noinline]] static twin::Answer put_call(word *w, std::size_t n, word key, word value) {
@@ -104,9 +108,6 @@ class Twin {
         return twin::Index<>(w, n).list(out, room);
     }
     [[gnu::noinline]] static twin::Answer mend_call(word *w, std::size_t n) { return twin::Index<>(w, n).mend(all); }
-    [[gnu::noinline]] static twin::Answer print_call(word *w, std::size_t n, word year, Bytes &out) {
-        return twin::Board<>(w, n).print(year, out.data(), out.size());
-    }
 
     Words words;
     std::uint32_t stores = 0;

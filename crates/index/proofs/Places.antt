@@ -2,25 +2,30 @@
 -- Assumes nothing.
 use mathlib.Core.Path.{_≡_, sym, _∙_}
 use mathlib.Core.Bool.{true, false}
-use mathlib.Core.List.{List}
+use mathlib.Core.List.{List, [], _∷_}
 use mathlib.Core.Option.{Option, none, some}
 use Prim.Native.Nat.{ℕ, _+_, _≤_, _<_}
 use lib.ListN.{length}
 use borrow.Author.Tests.{eq-eqb, ne-eqb}
+use denote.Enum.Declared
+use types.Run.{OneOf, miss}
 use Rattle.replies.specs.declared.Refusal.{Refusal}
 use Rattle.replies.specs.declared.Refusal.the-variants.{NoStore, NoKey}
 use Rattle.replies.specs.Replies.{unless}
 use Rattle.rules.specs.Layout.{validHeader, depth, segments}
-use Rattle.rules.specs.Get.{keyEntry, keyTests, entryTests, getTests}
+use Rattle.rules.specs.Get.{keyEntry, keySegment, keyTests, entryTests, getTests}
 use Rattle.rules.specs.Put.{directoryTests, putTests, keyChoice}
 use Rattle.rules.specs.Slots.{choose, hit}
 use Rattle.rules.proofs.Keys.{index-shift}
 use Rattle.rules.proofs.Scan.{in-range}
-use Rattle.rules.proofs.Put.{passed}
+use Rattle.rules.proofs.Put.{passed, choice-found, choice-into, choice-full}
 use Rattle.rules.proofs.Range.{hit-slot}
 use Rattle.segment.specs.declared.probe.Hit.{Hit}
 use Rattle.segment.specs.declared.probe.Hit.the-variants.{At as HitAt, Absent}
-use Rattle.segment.specs.Answers.{hitOf}
+use Rattle.segment.proofs.choice.Choice
+use Rattle.segment.specs.declared.choice.Choice.{Choice as CodeChoice}
+use Rattle.segment.specs.declared.choice.Choice.the-variants.{Found, Into, Full}
+use Rattle.segment.specs.Answers.{hitOf, choiceOf}
 use Rattle.layout.specs.declared.place.Place.{Place}
 use Rattle.layout.specs.declared.place.Placed.{Placed}
 use Rattle.layout.specs.declared.place.Placed.the-variants.{At, Refused}
@@ -105,3 +110,20 @@ module _ {p : Place} {a : List ℕ} (k : KeyPlace p a) (r : Hit) (e : hitOf r �
 
   pub found-inside : (j : ℕ) → r ≡ HitAt j → (j < 64) × (p .base + 128 ≤ length a)
   found-inside j q = (hit-slot a (p .base) (p .key) j (found-hit j q), place-bounds k .whole)
+
+-- The same of a slot that was chosen: the hit is found where the choice is, and there is none where the choice is another.
+module _ {p : Place} {a : List ℕ} (k : KeyPlace p a) (r : CodeChoice) (e : choiceOf r ≡ keyChoice a (p .key)) where
+  pub chosen-hit : (j : ℕ) → r ≡ Found j → hit a (p .base) (p .key) ≡ some j
+  chosen-hit j q = rw (k .base-is) at (choice-found a (p .key) j (sym (rw q at e)))
+
+  pub chosen-inside : (j : ℕ) → r ≡ Found j → (j < 64) × (p .base + 128 ≤ length a)
+  chosen-inside j q = (hit-slot a (p .base) (p .key) j (chosen-hit j q), place-bounds k .whole)
+
+  pub not-chosen : OneOf (1 ∷ 2 ∷ []) (denote.Enum.Declared.tagOf Rattle.segment.proofs.choice.Choice.the-type r) → hit a (p .base) (p .key) ≡ none
+  not-chosen t = rw (k .base-is) at (misses r t (sym e))
+    where
+      misses : (q : CodeChoice) → OneOf (1 ∷ 2 ∷ []) (denote.Enum.Declared.tagOf Rattle.segment.proofs.choice.Choice.the-type q)
+          → keyChoice a (p .key) ≡ choiceOf q → hit a (keySegment a (p .key)) (p .key) ≡ none
+      misses (Found j) t e = absurd (miss (1 ∷ 2 ∷ []) 0 Prim.tt t)
+      misses (Into j) t e = choice-into a (p .key) j e .missing
+      misses Full t e = choice-full a (p .key) e .missing

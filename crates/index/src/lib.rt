@@ -99,7 +99,8 @@ pub fn put(words: &mut [u64], key: u64, value: u64, allowance: u32) -> Answer
     Answer { reply, stores }
 }
 
-// Remove: the key word at the first hit is cleared; or the key is absent.
+// Remove: the key word at the first hit is cleared; or the key is absent. The hit is found as a put
+// finds it.
 pub fn remove(words: &mut [u64], key: u64, allowance: u32) -> Answer
     ensures { λ r. ⌜ Answered (step (now (words .entry)) 0 (Remove key allowance)) r (now (words .exit)) ⌝ }
 {
@@ -107,10 +108,10 @@ pub fn remove(words: &mut [u64], key: u64, allowance: u32) -> Answer
         Placed::At(place) => place,
         Placed::Refused(refusal) => return without_store(Reply::Refused(refusal)),
     };
-    let base = place.base;
-    let Hit::At(slot) = find_at(words, base, place.key) else {
+    let Choice::Found(slot) = choose_at(words, place) else {
         return without_store(Reply::Absent);
     };
+    let base = place.base;
     let due = store_word(words, base + 2 * slot, 0, allowance, 0);
     after_stores(Reply::Done, allowance, due)
 }

@@ -80,6 +80,7 @@ pub record IntoSlot (a : List ℕ) (base L bits key j : ℕ) : Type 0 where
 
 -- Every slot of the key's probe window has another key, which is live there.
 pub record FullWindow (a : List ℕ) (base L bits key : ℕ) : Type 0 where
+  pub missing : hit a base key ≡ none
   pub others : (j : ℕ) → List·Memᴰ j (window key) → keyAt a base j ≡ key → ⊥
   pub all-live : (j : ℕ) → List·Memᴰ j (window key) → live L bits (keyAt a base j) ≡ true
 
@@ -129,6 +130,7 @@ module _ (a : List ℕ) (base L bits key : ℕ) where
   full-by-choose e =
       let c = chosen-full (hit a base key) (slotForNew a base L bits key) e in
       record {
+        missing = c .0;
         others = λ j m. eqb-false (keyAt a base j) key (first-none (λ i. eqb (keyAt a base i) key) (window key) (c .0) j m);
         all-live = no-new-slot a base L bits key (c .1);
       }

@@ -3,8 +3,7 @@
 use native.Mathlib.Omega.{arith}
 use mathlib.Core.Path.{ap}
 use Rattle.replies.specs.Replies.{saidBy}
-use Rattle.layout.proofs.Places.{place-bounds}
-use Rattle.index.proofs.Places.{stands, refused-by, found-hit, absent-hit, found-inside}
+use Rattle.index.proofs.Places.{stands, refused-by, chosen-hit, chosen-inside, not-chosen}
 use Rattle.index.proofs.Calls.{remove-refused, remove-absent, remove-done}
 use borrow.Author.Needs.{needs}
 use Rattle.index.proofs.remove.Statement.{statement}
@@ -29,14 +28,11 @@ returns : tie.Need-returns
 returns c =
     remove-refused _ _ _ _ _ (refused-by _ _ _ _ (c .before .before .before .before .place-to-change .ensures) _ (c .before .before .refusal .given .1)) (ap saidBy (c .without-store .ensures .0), c .without-store .ensures .1)
 
-find-at-requires : tie.Need-find-at-requires
-find-at-requires c κs = place-bounds ((stands _ _ _ _ (c .before .before .before .before .place-to-change .ensures) _ (c .before .before .place .given .1)) .2) .whole
+choose-at-requires : tie.Need-choose-at-requires
+choose-at-requires c κs = (stands _ _ _ _ (c .before .before .before .before .place-to-change .ensures) _ (c .before .before .place .given .1)) .2
 
 enum-known-slot : tie.Need-enum-known-slot
 enum-known-slot c = search needs
-
-enum-told : tie.Need-enum-told
-enum-told c = search needs
 
 without-store-requires-2 : tie.Need-without-store-requires-2
 without-store-requires-2 c κs = search needs
@@ -46,25 +42,25 @@ same-length-2 c = search needs
 
 returns-2 : tie.Need-returns-2
 returns-2 c =
-    let x = stands _ _ _ _ (c .before .before .before .before .before .before .before .before .place-to-change .ensures) _ (c .before .before .before .before .before .before .place .given .1) in
-    remove-absent _ _ _ _ _ x (absent-hit (x .2) _ (c .before .before .before .find-at .ensures) (c .before .enum-told .given .1)) (ap saidBy (c .without-store2 .ensures .0), c .without-store2 .ensures .1)
+    let x = stands _ _ _ _ (c .before .before .before .before .before .before .before .place-to-change .ensures) _ (c .before .before .before .before .before .place .given .1) in
+    remove-absent _ _ _ _ _ x (not-chosen (x .2) (c .before .before .choose-at .result) (c .before .before .choose-at .ensures) (c .before .match2 .keys2)) (ap saidBy (c .without-store2 .ensures .0), c .without-store2 .ensures .1)
 
 mul-store-word : tie.Need-mul-store-word
 mul-store-word c =
     let x = stands _ _ _ _ (c .before .before .before .before .before .before .before .before .before .place-to-change .ensures) _ (c .before .before .before .before .before .before .before .place .given .1) in
-    let i = found-inside (x .2) _ (c .before .before .before .before .find-at .ensures) _ (c .before .before .slot .given .1) in
+    let i = chosen-inside (x .2) _ (c .before .before .before .before .choose-at .ensures) _ (c .before .before .slot .given .1) in
     omega arith
 
 add-store-word : tie.Need-add-store-word
 add-store-word c =
     let x = stands _ _ _ _ (c .before .before .before .before .before .before .before .before .before .place-to-change .ensures) _ (c .before .before .before .before .before .before .before .place .given .1) in
-    let i = found-inside (x .2) _ (c .before .before .before .before .find-at .ensures) _ (c .before .before .slot .given .1) in
+    let i = chosen-inside (x .2) _ (c .before .before .before .before .choose-at .ensures) _ (c .before .before .slot .given .1) in
     omega arith
 
 store-word-requires : tie.Need-store-word-requires
 store-word-requires c κs =
     let x = stands _ _ _ _ (c .before .before .before .before .before .before .before .before .before .place-to-change .ensures) _ (c .before .before .before .before .before .before .before .place .given .1) in
-    let i = found-inside (x .2) _ (c .before .before .before .before .find-at .ensures) _ (c .before .before .slot .given .1) in
+    let i = chosen-inside (x .2) _ (c .before .before .before .before .choose-at .ensures) _ (c .before .before .slot .given .1) in
     (omega arith, omega arith)
 
 after-stores-requires : tie.Need-after-stores-requires
@@ -76,7 +72,7 @@ same-length-3 c = search needs
 returns-3 : tie.Need-returns-3
 returns-3 c =
     let x = stands _ _ _ _ (c .before .before .before .before .before .before .before .before .before .before .before .before .before .place-to-change .ensures) _ (c .before .before .before .before .before .before .before .before .before .before .before .place .given .1) in
-    remove-done _ _ _ _ _ x _ (found-hit (x .2) _ (c .before .before .before .before .before .before .before .before .find-at .ensures) _ (c .before .before .before .before .before .before .slot .given .1)) _ _ (c .before .before .before .store-word .ensures) (c .after-stores .ensures)
+    remove-done _ _ _ _ _ x _ (chosen-hit (x .2) _ (c .before .before .before .before .before .before .before .before .choose-at .ensures) _ (c .before .before .before .before .before .before .slot .given .1)) _ _ (c .before .before .before .store-word .ensures) (c .after-stores .ensures)
 
 pub remove-spec : {M : Type 1} → statement M
 remove-spec =
@@ -88,9 +84,8 @@ remove-spec =
     without-store-requires
     same-length
     returns
-    find-at-requires
+    choose-at-requires
     enum-known-slot
-    enum-told
     without-store-requires-2
     same-length-2
     returns-2
