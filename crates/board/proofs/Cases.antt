@@ -4,20 +4,23 @@ use Prim.Native.Nat.{ℕ, suc, _-_, _≤_, _<_}
 use mathlib.Core.Path.{_≡_, refl, sym, ap, _∙_}
 use mathlib.Core.Bool.{true, false}
 use mathlib.Core.List.{List, [], _∷_, List·Memᴰ, List·Memᴰ·head, List·Memᴰ·tail, List·Memᴰ·not-nil, List·Memᴰ·cases-cons, List·Memᴰ·eq-of-singleton}
-use mathlib.Core.Option.{Option, none, some}
+use mathlib.Core.Option.{Option, none, some, Option·some-injective}
 use mathlib.Core.Logic.{_⊎_, inl, inr, ⊎-elim}
 use native.Mathlib.Omega.{arith}
 use borrow.Author.Tests.{leb-true, leb-false}
 use lib.Dec.{leb}
+use lib.ListN.{length}
 use Rattle.stores.proofs.Lists.{mem-each, each-mem, some-none}
 use Rattle.stores.proofs.Tests.{cases}
-use Rattle.replies.specs.Replies.{Said, done, absent, refused}
+use Rattle.replies.specs.declared.Answer.{Answer}
+use Rattle.replies.specs.declared.Reply.the-variants.{Value}
+use Rattle.replies.specs.Replies.{Said, done, absent, refused, saidBy}
 use Rattle.replies.proofs.Outcomes.{refused-not-done}
 use Rattle.rules.proofs.Lookups.{lookup-refused, lookups-refused-same}
 use Rattle.board.specs.Jobs.{validYear, jobKey}
-use Rattle.board.specs.Print.{Lookup, lookup, yearLookups, firstRefusal, refusedIn, allNumbers, printYear}
+use Rattle.board.specs.Print.{Job, textOf, Printing, nothing, Printed, Lookup, lookup, yearLookups, firstRefusal, refusedIn, allNumbers, printYear}
 use Rattle.board.specs.Passes.{bytesOf}
-use Rattle.board.specs.Claims.{Refuses, PrintSays, bad-year, passed-on, too-long, printed, PrintCases, AnyRefusal}
+use Rattle.board.specs.Claims.{JobsOfYear, Refuses, PrintSays, bad-year, passed-on, too-long, printed, PrintCases, AnyRefusal}
 use Rattle.board.proofs.Jobs.{year-bounds, month-bounds, month-valid, number-bound, number-valid, key-nonzero}
 use Rattle.board.proofs.Lookups.{jobTurn, monthTurn, month-each, year-each}
 use Rattle.board.proofs.Printing.{print-bad-year, print-refused, print-short, print-fits}
@@ -95,10 +98,8 @@ refused-first : (k : Lookup) (ks : List Lookup) (n : ℕ) → (refusedIn ks ≡ 
 unfolding firstRefusal
 refused-first k ks n later (done vs) q e = let r = later e in record { one = r .one; made = List·Memᴰ·tail (r .made); says = r .says }
 refused-first k ks n later absent q e = let r = later e in record { one = r .one; made = List·Memᴰ·tail (r .made); says = r .says }
-refused-first k ks n later (refused m) q e = record { one = k; made = List·Memᴰ·head refl; says = q ∙ ap refused (inj m n e) }
-  where
-    inj : (x y : ℕ) → some x ≡ some y → x ≡ y
-    inj x y p = cc
+refused-first k ks n later (refused m) q e =
+    record { one = k; made = List·Memᴰ·head refl; says = q ∙ ap refused (Option·some-injective m n e) }
 
 some-refused : (ls : List Lookup) (n : ℕ) → refusedIn ls ≡ some n → RefusedWith n ls
 unfolding refusedIn
@@ -177,3 +178,43 @@ print-cases a year room =
         (λ (t : leb (bytesOf (yearLookups a year allNumbers)) room ≡ false).
         too-long _ y (none-refuses a year y e) (jobs-of-year a year) (leb-false _ _ t) (print-short a year room y e (leb-false _ _ t)))
         (cases (leb (bytesOf (yearLookups a year allNumbers)) room))
+
+-- ---- A done print
+
+-- What a done print of n bytes has printed.
+pub record PrintDone (a : List ℕ) (year room n : ℕ) : Type 0 where
+  pub jobs : List Job
+  pub exact : JobsOfYear a year jobs
+  pub bytes : n ≡ length (textOf jobs)
+  pub fits : length (textOf jobs) ≤ room
+  pub lines : (printYear a year room) .lines ≡ textOf jobs
+
+module _ (a : List ℕ) (year room n : ℕ) (says : (printYear a year room) .reply ≡ done (n ∷ [])) where
+  not-nothing : (m : ℕ) → printYear a year room ≡ nothing (refused m) → ⊥
+  not-nothing m e = refused-not-done m (n ∷ []) (ap (λ (p : Printing). p .reply) (sym e) ∙ says)
+
+  same-count : (m : ℕ) → done (m ∷ []) ≡ done (n ∷ []) → n ≡ m
+  same-count m e = cc
+
+  by-case : PrintSays a year room (printYear a year room) → PrintDone a year room n
+  by-case (bad-year y e) = absurd (not-nothing 11 e)
+  by-case (passed-on m y r k e) = absurd (not-nothing m e)
+  by-case (too-long jobs y k j h e) = absurd (not-nothing 10 e)
+  by-case (printed jobs y k j h e) =
+      record {
+        jobs = jobs;
+        exact = j;
+        bytes = same-count (length (textOf jobs)) (ap (λ (p : Printing). p .reply) (sym e) ∙ says);
+        fits = h;
+        lines = ap (λ (p : Printing). p .lines) e;
+      }
+
+  pub print-done : PrintDone a year room n
+  print-done = by-case (print-cases a year room)
+
+-- Its bytes are within the buffer.
+pub printed-within : (a : List ℕ) (year : ℕ) (answer : Answer) (before after : List ℕ) (n : ℕ)
+    → Printed (printYear a year (length before)) answer before after → answer .reply ≡ Value n → n ≤ length before
+printed-within a year answer before after n p e =
+    let d = print-done a year (length before) n (sym (p .reply) ∙ ap saidBy e) in
+    rw (d .bytes) (d .fits)

@@ -6,8 +6,8 @@ use mathlib.Core.Bool.{Bool, true, false}
 use mathlib.Core.List.{List}
 use mathlib.Core.Option.{none, some}
 use native.Mathlib.Omega.{arith}
-use borrow.Author.Tests.{leb-true, le-leb}
-use lib.Dec.{leb}
+use borrow.Author.Tests.{leb-true, le-leb, ltb-true}
+use lib.Dec.{leb, ltb}
 use Rattle.stores.proofs.Lists.{some-none}
 use Rattle.stores.proofs.Tests.{and-left, and-right, and-true}
 use Rattle.replies.specs.declared.Refusal.{Refusal}
@@ -15,6 +15,7 @@ use Rattle.replies.specs.declared.Refusal.the-variants.{BadYear, BadMonth, BadN
 use Rattle.replies.specs.declared.Answer.{Answer}
 use Rattle.replies.specs.declared.Reply.the-variants.{Refused as RefusedReply}
 use Rattle.replies.specs.Replies.{numberOf, saidBy, unless}
+use Rattle.replies.proofs.Sayable.{given-by, unless-given}
 use Rattle.rules.specs.declared.Call.{Call}
 use Rattle.rules.specs.Step.{step}
 use Rattle.index.specs.Answered.{Answered}
@@ -80,20 +81,14 @@ module _ (year month number : ℕ) where
 
   -- They refuse with 11, 12 or 13.
   pub tests-late : (r : Refusal) → jobTests year month number ≡ some r → 10 < numberOf r
-  unfolding jobTests yearTests unless
-  tests-late r e = go (validYear year) (validMonth month) (validNumber number) e
-    where
-      late : (q : Refusal) → 10 < numberOf q → some q ≡ some r → 10 < numberOf r
-      late q h p = rw (inj q r p) at h
-        where
-          inj : (x y : Refusal) → some x ≡ some y → x ≡ y
-          inj x y u = cc
-
-      go : (y m n : Bool) → unless y BadYear (unless m BadMonth (unless n BadNumber none)) ≡ some r → 10 < numberOf r
-      go false m n u = late BadYear (omega arith) u
-      go true false n u = late BadMonth (omega arith) u
-      go true true false u = late BadNumber (omega arith) u
-      go true true true u = absurd (some-none r (sym u))
+  unfolding jobTests yearTests
+  tests-late r e =
+      let late : ℕ → Bool = λ n. ltb 10 n in
+      ltb-true 10 (numberOf r)
+      (given-by late (jobTests year month number) r
+      (unless-given late (validYear year) BadYear _ refl
+      (unless-given late (validMonth month) BadMonth _ refl (unless-given late (validNumber number) BadNumber none refl Prim.tt)))
+      e)
 
   -- A key is not 0 in a year from 1 on.
   pub key-nonzero : 1 ≤ year → jobKey year month number ≡ 0 → ⊥

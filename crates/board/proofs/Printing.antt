@@ -1,14 +1,12 @@
 -- A print, case by case: from what the two passes have counted and written, and as document 02 says it.
 -- Assumes nothing.
 use Prim.Native.Nat.{ℕ, _≤_, _<_}
-use mathlib.Core.Path.{_≡_, refl, sym, ap, _∙_}
+use mathlib.Core.Path.{_≡_, refl, ap, _∙_}
 use mathlib.Core.Bool.{true, false}
 use mathlib.Core.List.{List, [], _∷_}
-use mathlib.Core.Option.{Option, none, some}
-use mathlib.Core.Logic.{⊎-elim}
+use mathlib.Core.Option.{none, some}
 use native.Mathlib.Nat.{zero-add}
-use borrow.Author.Tests.{le-leb, lt-leb, leb-true, leb-false}
-use lib.Dec.{leb}
+use borrow.Author.Tests.{le-leb, lt-leb}
 use lib.ListN.{length}
 use Rattle.stores.specs.Written.{Written}
 use Rattle.replies.specs.declared.Answer.{Answer}
@@ -16,8 +14,6 @@ use Rattle.replies.specs.declared.Refusal.{Refusal}
 use Rattle.replies.specs.declared.Refusal.the-variants.{ShortList, BadYear}
 use Rattle.replies.specs.declared.Reply.the-variants.{Value, Refused as RefusedReply}
 use Rattle.replies.specs.Replies.{Said, done, refused, refuse, saidBy, unless}
-use Rattle.stores.proofs.Tests.{cases}
-use Rattle.replies.proofs.Outcomes.{refused-not-done}
 use Rattle.board.specs.declared.count.Counted.the-variants.{Bytes, Refused}
 use Rattle.board.specs.Jobs.{validYear, yearTests}
 use Rattle.board.specs.Print.{Lookup, yearLookups, linesIn, refusedIn, Printing, nothing, fitted, behindLookups, behindTests, printOf, printOver, allNumbers, printYear, Printed}
@@ -50,48 +46,6 @@ module _ (a : List ℕ) (year room : ℕ) where
       → printYear a year room ≡ record { reply = done (bytesOf looked ∷ []); lines = linesIn looked }
   unfolding printOf behindLookups fitted
   print-fits y e h = print-looks y ∙ rw (e, le-leb (bytesOf looked) room h) refl
-
--- What a done print says: the year is valid, no lookup is refused, and the lines fit and are written.
-pub record Done (a : List ℕ) (year room n : ℕ) : Type 0 where
-  pub valid : validYear year ≡ true
-  pub none-refused : refusedIn (yearLookups a year allNumbers) ≡ none
-  pub fits : bytesOf (yearLookups a year allNumbers) ≤ room
-  pub bytes : n ≡ bytesOf (yearLookups a year allNumbers)
-  pub print : printYear a year room ≡ record { reply = done (bytesOf (yearLookups a year allNumbers) ∷ []); lines = linesIn (yearLookups a year allNumbers) }
-
-module _ (a : List ℕ) (year room n : ℕ) (says : (printYear a year room) .reply ≡ done (n ∷ [])) where
-  -- A print that says a refusal is not done.
-  not-refused : (m : ℕ) → printYear a year room ≡ nothing (refused m) → ⊥
-  not-refused m e = refused-not-done m (n ∷ []) (ap (λ (p : Printing). p .reply) (sym e) ∙ says)
-
-  same-count : (m : ℕ) → done (m ∷ []) ≡ done (n ∷ []) → n ≡ m
-  same-count m e = cc
-
-  pub print-done : Done a year room n
-  print-done =
-      ⊎-elim
-      (λ (y : validYear year ≡ true). looked-at y (refusedIn (yearLookups a year allNumbers)) refl)
-      (λ (y : validYear year ≡ false). absurd (not-refused 11 (print-bad-year a year room y)))
-      (cases (validYear year))
-    where
-      fit : validYear year ≡ true → refusedIn (yearLookups a year allNumbers) ≡ none → bytesOf (yearLookups a year allNumbers) ≤ room → Done a year room n
-      fit y e h =
-          let p = print-fits a year room y e h in
-          record {
-            valid = y;
-            none-refused = e;
-            fits = h;
-            bytes = same-count _ (ap (λ (q : Printing). q .reply) (sym p) ∙ says);
-            print = p;
-          }
-
-      looked-at : validYear year ≡ true → (o : Option ℕ) → refusedIn (yearLookups a year allNumbers) ≡ o → Done a year room n
-      looked-at y (some m) e = absurd (not-refused m (print-refused a year room m y e))
-      looked-at y none e =
-          ⊎-elim
-          (λ (t : leb (bytesOf (yearLookups a year allNumbers)) room ≡ true). fit y e (leb-true _ _ t))
-          (λ (t : leb (bytesOf (yearLookups a year allNumbers)) room ≡ false). absurd (not-refused 10 (print-short a year room y e (leb-false _ _ t))))
-          (cases (leb (bytesOf (yearLookups a year allNumbers)) room))
 
 -- ---- From what the code has answered
 
@@ -126,10 +80,3 @@ module _ (a : List ℕ) (year : ℕ) (before : List ℕ) (answer : Answer) where
         stores = v .1;
         bytes = w .list ∙ rw (zero-add (bytesOf (yearLookups a year allNumbers))) refl;
       })
-
--- The bytes of a done print are within the buffer.
-pub printed-within : (a : List ℕ) (year : ℕ) (answer : Answer) (before after : List ℕ) (n : ℕ)
-    → Printed (printYear a year (length before)) answer before after → answer .reply ≡ Value n → n ≤ length before
-printed-within a year answer before after n p e =
-    let d = print-done a year (length before) n (sym (p .reply) ∙ ap saidBy e) in
-    rw (d .bytes) (d .fits)

@@ -20,14 +20,12 @@ use Rattle.text.proofs.Digits.{number-decimal}
 use Rattle.text.proofs.Lines.{lines-none}
 use Rattle.text.proofs.Joined.{without, without-append, decimal-without, parts-alone, parts-joined, lines-joined}
 use Rattle.board.specs.Jobs.{validMonth, jobKey}
-use Rattle.board.specs.Print.{monthNames, monthName, Job, lineOf, jobLine, textOf, yearLookups, jobsIn, linesIn, allNumbers}
-use Rattle.board.specs.Passes.{bytesOf}
+use Rattle.board.specs.Print.{monthNames, monthName, Job, lineOf, jobLine, textOf}
 use Rattle.board.specs.ReadBack.{monthFrom, monthNamed, jobOf, jobOfFields, inFront, jobsOfLines, jobsRead}
-use Rattle.board.specs.Claims.{JobsOfYear, ReadsBack}
+use Rattle.board.specs.Claims.{ReadsBack}
 use Rattle.board.proofs.Jobs.{month-bounds, number-bound}
 use Rattle.board.proofs.Lines.{length-name}
-use Rattle.board.proofs.Printing.{Done, print-done}
-use Rattle.board.proofs.Year.{jobs-of-year}
+use Rattle.board.proofs.Cases.{PrintDone, print-done}
 
 -- ---- Names
 
@@ -150,17 +148,15 @@ text-read (j ∷ js) w =
 
 pub reads-back : ReadsBack
 reads-back a words year bytes answer before after p says =
-    let d : Done a year (length before) bytes = print-done a year (length before) bytes (sym (p .reply) ∙ says) in
-    let jobs = jobsIn (yearLookups a year allNumbers) in
-    let exact : JobsOfYear a year jobs = jobs-of-year a year in
-    let written : after ≡ linesIn (yearLookups a year allNumbers) ++ drop (bytesOf (yearLookups a year allNumbers)) before = p .bytes ∙ rw (d .print) refl in
-    let front : take bytes after ≡ textOf jobs = rw written (take-at (textOf jobs) _ bytes (sym (d .bytes))) in
-    let small : (j : Job) → List·Memᴰ j jobs → Writable j =
+    let d : PrintDone a year (length before) bytes = print-done a year (length before) bytes (sym (p .reply) ∙ says) in
+    let written : after ≡ textOf (d .jobs) ++ drop (length (textOf (d .jobs))) before = p .bytes ∙ rw (d .lines) refl in
+    let front : take bytes after ≡ textOf (d .jobs) = rw written (take-at (textOf (d .jobs)) _ bytes (sym (d .bytes))) in
+    let small : (j : Job) → List·Memᴰ j (d .jobs) → Writable j =
     λ j m.
-    let n : j .number ≤ 4095 = number-bound (j .number) (exact .numbers j m) in
+    let n : j .number ≤ 4095 = number-bound (j .number) (d .exact .numbers j m) in
     record {
-      month = exact .months j m;
+      month = d .exact .months j m;
       number = omega arith;
-      pages = found-below a (jobKey year (j .month) (j .number)) (2 ^ 64) words (j .pages) (exact .found j m);
+      pages = found-below a (jobKey year (j .month) (j .number)) (2 ^ 64) words (j .pages) (d .exact .found j m);
     } in
-    (jobs, rw front (text-read jobs small), exact)
+    (d .jobs, rw front (text-read (d .jobs) small), d .exact)

@@ -1,4 +1,6 @@
 // The first pass of a print: each job of the year is looked up, and the bytes of the lines are counted.
+use crate::job::LAST_MONTH;
+use crate::job::MOST_JOBS;
 use crate::job::job_key;
 use crate::line::line_length;
 use replies::Refusal;
@@ -7,11 +9,6 @@ ghost use Prim.Native.Nat.{_≤_};
 ghost use mathlib.Core.List.{[], _∷_};
 ghost use Rattle.board.specs.Print.{lookup, monthLookups, yearLookups, allNumbers};
 ghost use Rattle.board.specs.Passes.{CountedBy};
-
-// The months of a year, and the numbers of a month's jobs.
-pub(crate) const MONTHS_OF_YEAR: u64 = 12;
-
-pub(crate) const NUMBERS_OF_MONTH: u64 = 4096;
 
 // The bytes of the lines, or the refusal of a lookup.
 pub enum Counted {
@@ -40,7 +37,7 @@ fn count_month(words: &[u64], year: u64, month: u64) -> Counted
     ensures { λ r. ⌜ CountedBy r (monthLookups (now (words .entry)) year allNumbers month) ⌝ }
 {
     let mut bytes = 0;
-    for number in 0..NUMBERS_OF_MONTH {
+    for number in 0..MOST_JOBS {
         match count_job(words, year, month, number) {
             Counted::Bytes(more) => bytes += more,
             Counted::Refused(refusal) => return Counted::Refused(refusal),
@@ -55,7 +52,7 @@ pub(crate) fn count_year(words: &[u64], year: u64) -> Counted
     ensures { λ r. ⌜ CountedBy r (yearLookups (now (words .entry)) year allNumbers) ⌝ }
 {
     let mut bytes = 0;
-    for month in 0..MONTHS_OF_YEAR {
+    for month in 0..LAST_MONTH {
         match count_month(words, year, month + 1) {
             Counted::Bytes(more) => bytes += more,
             Counted::Refused(refusal) => return Counted::Refused(refusal),

@@ -8,10 +8,13 @@ ghost use Rattle.board.specs.Jobs.{validYear, validMonth, validNumber, j
 const LAST_YEAR: u64 = 9999;
 
 // The last month of a year; the first is 1.
-const LAST_MONTH: u64 = 12;
+pub(crate) const LAST_MONTH: u64 = 12;
 
 // The last number of a month's jobs; the first is 0.
 const LAST_NUMBER: u64 = 4095;
+
+// How many jobs a month may have.
+pub(crate) const MOST_JOBS: u64 = LAST_NUMBER + 1;
 
 // What a job's key takes of a year and of a month.
 const YEAR_KEYS: u64 = 65536;

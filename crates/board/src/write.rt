@@ -1,7 +1,7 @@
 // The second pass of a print: each job of the year is looked up again, and its line written where it is
 // found.
-use crate::count::MONTHS_OF_YEAR;
-use crate::count::NUMBERS_OF_MONTH;
+use crate::job::LAST_MONTH;
+use crate::job::MOST_JOBS;
 use crate::job::job_key;
 use crate::line::write_line;
 use crate::month::Month;
@@ -34,7 +34,7 @@ fn write_month(words: &[u64], year: u64, month: u64, buffer: &mut [u8], at: usiz
 {
     let month = month_of(year, month);
     let mut next = at;
-    for number in 0..NUMBERS_OF_MONTH {
+    for number in 0..MOST_JOBS {
         next = write_job(words, month, number, buffer, next);
     }
     next
@@ -46,7 +46,7 @@ pub(crate) fn write_year(words: &[u64], year: u64, buffer: &mut [u8]) -> usize
     ensures { λ r. ⌜ Written (linesIn (yearLookups (now (words .entry)) year allNumbers)) 0 (now (buffer .entry)) r (now (buffer .exit)) ⌝ }
 {
     let mut next = 0;
-    for month in 0..MONTHS_OF_YEAR {
+    for month in 0..LAST_MONTH {
         next = write_month(words, year, month + 1, buffer, next);
     }
     next

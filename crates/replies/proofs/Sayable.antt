@@ -30,6 +30,9 @@ module _ (gives : ℕ → Bool) where
   GivenBy none = Unit {0}
   GivenBy (some r) = gives (numberOf r) ≡ true
 
+  pub given-by : (t : Option Refusal) (r : Refusal) → GivenBy t → t ≡ some r → gives (numberOf r) ≡ true
+  given-by t r g e = rw e at g
+
   -- Some reply of the code says this, and where it refuses, with such a number.
   pub record Sayable (said : Said) : Type 0 where
     pub reply : Reply

@@ -1,6 +1,6 @@
 -- The cases of a put as laws, what its passed tests say, and induction over its splits.
 -- Assumes nothing.
-use mathlib.Core.Path.{_≡_, refl, sym, _∙_}
+use mathlib.Core.Path.{_≡_, refl, _∙_}
 use mathlib.Core.Bool.{Bool, true, false, not}
 use mathlib.Core.List.{List, [], _∷_, List·Memᴰ, List·Memᴰ·head, List·Memᴰ·not-nil, List·Memᴰ·append-cases, List·Memᴰ·eq-of-singleton, Memᴰ·append-left, Memᴰ·append-right}
 use mathlib.Core.Option.{Option, none, some}
@@ -8,8 +8,8 @@ use mathlib.Core.Logic.{⊎-elim}
 use Prim.Native.Nat.{ℕ, zero, suc, _-_, _≤_, _<_}
 use native.Mathlib.Nat.{le-step, not-suc-le-zero, eq-or-lt-of-le, le-of-suc-le-suc}
 use native.Mathlib.Omega.{arith}
-use borrow.Author.Tests.{eqb-false, not-true, not-false}
-use lib.Dec.{eqb}
+use borrow.Author.Tests.{eqb-false, not-true, not-false, leb-true}
+use lib.Dec.{leb, eqb}
 use Rattle.stores.specs.Lists.{each}
 use Rattle.stores.specs.Store.{store, apply}
 use Rattle.stores.specs.Plan.{Plan, reply-only, _then_}
@@ -21,6 +21,7 @@ use Rattle.rules.specs.Keys.{index}
 use Rattle.rules.specs.Scan.{inRange, leadersValid, entriesAgree}
 use Rattle.rules.specs.Slots.{hit, Choice, found, into, full, named, freeSegment}
 use Rattle.replies.specs.Replies.{Said, done, numberOf, refuse, unless, tested}
+use Rattle.replies.proofs.Sayable.{given-by, unless-given}
 use Rattle.rules.specs.Get.{keyEntry, keySegment, keyTests}
 use Rattle.rules.specs.Split.{splitting}
 use Rattle.rules.specs.Put.{directoryTests, putTests, keyChoice, placed, intoFree, putUnused, unused, put}
@@ -39,16 +40,6 @@ pub unless-none : (t : Bool) (r : Refusal) (later : Option Refusal) → unless t
 unfolding unless
 unless-none true r later e = (refl, e)
 unless-none false r later e = absurd (some-none r e)
-
--- The tests refuse with a number of at most n: this one does, and those after it do.
-unless-number : (n : ℕ) (t : Bool) (r : Refusal) (later : Option Refusal) → numberOf r ≤ n
-    → ((q : Refusal) → later ≡ some q → numberOf q ≤ n) → (q : Refusal) → unless t r later ≡ some q → numberOf q ≤ n
-unfolding unless
-unless-number n true r later h k q e = k q e
-unless-number n false r later h k q e = rw (inj r q e) at h
-  where
-    inj : (x y : Refusal) → some x ≡ some y → x ≡ y
-    inj x y p = cc
 
 -- What a put's passed tests say.
 pub record Passed (a : List ℕ) (key : ℕ) : Type 0 where
@@ -81,11 +72,15 @@ passed a key e =
 -- A put's tests refuse with 1 to 4.
 pub tests-number : (a : List ℕ) (key : ℕ) (r : Refusal) → putTests a key ≡ some r → numberOf r ≤ 4
 unfolding putTests keyTests directoryTests
-tests-number a key =
-    unless-number 4 (validHeader a) NoStore _ (omega arith)
-    (unless-number 4 (not (eqb key 0)) NoKey _ (omega arith)
-    (unless-number 4 (leadersValid a (depth a) (segments a)) Broken _ (omega arith)
-    (unless-number 4 (entriesAgree a (depth a)) Unmended none (omega arith) (λ q e. absurd (some-none q (sym e))))))
+tests-number a key r e =
+    let few : ℕ → Bool = λ n. leb n 4 in
+    leb-true (numberOf r) 4
+    (given-by few (putTests a key) r
+    (unless-given few (validHeader a) NoStore _ refl
+    (unless-given few (not (eqb key 0)) NoKey _ refl
+    (unless-given few (leadersValid a (depth a) (segments a)) Broken _ refl
+    (unless-given few (entriesAgree a (depth a)) Unmended none refl Prim.tt))))
+    e)
 
 -- ---- The choice of a slot, in the segment of the key
 

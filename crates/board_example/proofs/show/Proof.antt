@@ -3,7 +3,7 @@
 use lib.ListN.{length-take}
 use native.Mathlib.Omega.{arith}
 use borrow.Author.Needs.{needs}
-use Rattle.board.proofs.Printing.{printed-within}
+use Rattle.board.proofs.Cases.{printed-within}
 use Rattle.board_example.proofs.show.Statement.{statement}
 use Rattle.board_example.proofs.show.Tie as tie
 
