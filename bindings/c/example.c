@@ -18,7 +18,6 @@ static void report(const char *call, struct page_index_reply reply)
 int main(void)
 {
     uint64_t list[6] = {0};
-    uint64_t keys = 0, values = 0;
     report("format", page_index_format(words, WORDS, 2, 2, ALLOWANCE));
     report("put 7", page_index_put(words, WORDS, 7, 70, ALLOWANCE));
     report("put 8", page_index_put(words, WORDS, 8, 80, ALLOWANCE));
@@ -27,11 +26,8 @@ int main(void)
     report("get 8", page_index_get(words, WORDS, 8));
     report("get 10", page_index_get(words, WORDS, 10));
     report("list", page_index_list(words, WORDS, list, 6));
-    for (int i = 0; i < 6; i += 2) {
-        keys += list[i];
-        values += list[i + 1];
-    }
-    printf("sum of keys %" PRIu64 ", sum of values %" PRIu64 "\n", keys, values);
+    for (int i = 0; i < 6; i += 2)
+        printf("key %" PRIu64 ", value %" PRIu64 "\n", list[i], list[i + 1]);
     report("remove 8", page_index_remove(words, WORDS, 8, ALLOWANCE));
     report("get 8", page_index_get(words, WORDS, 8));
     report("mend", page_index_mend(words, WORDS, ALLOWANCE));

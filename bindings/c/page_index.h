@@ -93,8 +93,9 @@ struct page_index_reply page_index_remove(uint64_t *words, size_t len, uint64_t 
 struct page_index_reply page_index_mend(uint64_t *words, size_t len, uint32_t allowance);
 
 /*
- * Writes every record to the list array, each as key, then value, in an order that may differ from
- * version to version; words behind them stay. Codes: 0 with the number of records, 1, 3, 4, 10.
+ * Writes every record to the list array, each as key, then value; words behind them stay. Records come
+ * block by block from the left of the directory, and by rising slot number within a segment; two listings
+ * of one untouched index are equal word for word. Codes: 0 with the number of records, 1, 3, 4, 10.
  */
 struct page_index_reply page_index_list(const uint64_t *words, size_t len, uint64_t *list, size_t list_len);
 

@@ -1,5 +1,5 @@
 // The twin against the library: random runs of calls on small indexes and boards, every answer, every
-// word and every byte of a print.
+// word, every word of a list in its place, and every byte of a print.
 #include "../../bindings/c/month_board.h"
 #include "twin.hpp"
 
@@ -17,14 +17,10 @@ bool same(const page_index_reply &ours, const twin::Answer &theirs) {
     return ours.code == theirs.code && ours.stores == theirs.stores && ours.value == theirs.value;
 }
 
-std::vector<std::pair<word, word>> records(const Words &list, word count) {
-    std::vector<std::pair<word, word>> found;
-    for (word i = 0; i < count; i++) found.emplace_back(list[2 * i], list[2 * i + 1]);
-    std::sort(found.begin(), found.end());
-    return found;
-}
+// The word that the list arrays hold where nothing was written.
+constexpr word unwritten = 0x1111222233334444;
 
-// One call on both arrays; whether answers, lists and arrays agree.
+// One call on both arrays; whether answers, arrays and whole list arrays agree, word for word.
 bool agrees(Words &ours, Words &theirs, std::mt19937_64 &r) {
     twin::Index<> index(theirs.data(), theirs.size());
     word *w = ours.data();
@@ -34,9 +30,9 @@ bool agrees(Words &ours, Words &theirs, std::mt19937_64 &r) {
     switch (r() % 16) {
         case 0: return same(page_index_mend(w, n, allowance), index.mend(allowance)) && ours == theirs;
         case 1: {
-            Words a(r() % 600, 0), b = a;
+            Words a(r() % 600, unwritten), b = a;
             page_index_reply got = page_index_list(w, n, a.data() ? a.data() : w, a.size());
-            return same(got, index.list(b.data(), b.size())) && records(a, got.value) == records(b, got.value);
+            return same(got, index.list(b.data(), b.size())) && a == b;
         }
         case 2:
         case 3:

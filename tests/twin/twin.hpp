@@ -291,7 +291,8 @@ class Index {
         }
     }
 
-    // Every live record, block by block; answers how many there are.
+    // Every live record, block by block from the left of the directory and by rising slot number within a
+    // segment, as document 02 orders a list (wish 3); answers how many there are.
     template <class Visit>
     std::size_t walk(Visit visit) const {
         const word *entries = w + (std::size_t(1) << g);

@@ -172,8 +172,9 @@ pub fn mend(words: &mut [u64], allowance: u32) -> Result<u32, Refused> {
     stores(unsafe { page_index_mend(words.as_mut_ptr(), words.len(), allowance) })
 }
 
-/// Writes every record to the list array, each as key, then value, in an order that may differ from
-/// version to version, and answers how many there are. Words behind them stay.
+/// Writes every record to the list array, each as key, then value, and answers how many there are. Words
+/// behind them stay. Records come block by block from the left of the directory, and by rising slot number
+/// within a segment; two listings of one untouched index are equal word for word.
 pub fn list(words: &[u64], list: &mut [u64]) -> Result<usize, Refused> {
     // SAFETY: as in `format`; the borrow checker keeps the two slices apart.
     let reply = unsafe { page_index_list(words.as_ptr(), words.len(), list.as_mut_ptr(), list.len()) };

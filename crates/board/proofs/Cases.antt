@@ -15,10 +15,12 @@ use Rattle.stores.proofs.Tests.{cases}
 use Rattle.replies.specs.declared.Answer.{Answer}
 use Rattle.replies.specs.declared.Reply.the-variants.{Value}
 use Rattle.replies.specs.Replies.{Said, done, absent, refused, saidBy}
+use Rattle.replies.specs.Writing.{Writing, nothing}
+use Rattle.replies.specs.Answered.{Wrote}
 use Rattle.replies.proofs.Outcomes.{refused-not-done}
 use Rattle.rules.proofs.Lookups.{lookup-refused, lookups-refused-same}
 use Rattle.board.specs.Jobs.{validYear, jobKey}
-use Rattle.board.specs.Print.{Job, textOf, Printing, nothing, Printed, Lookup, lookup, yearLookups, firstRefusal, refusedIn, allNumbers, printYear}
+use Rattle.board.specs.Print.{Job, textOf, Lookup, lookup, yearLookups, firstRefusal, refusedIn, allNumbers, printYear}
 use Rattle.board.specs.Passes.{bytesOf}
 use Rattle.board.specs.Claims.{JobsOfYear, Refuses, PrintSays, bad-year, passed-on, too-long, printed, PrintCases, AnyRefusal}
 use Rattle.board.proofs.Jobs.{year-bounds, month-bounds, month-valid, number-bound, number-valid, key-nonzero}
@@ -187,11 +189,11 @@ pub record PrintDone (a : List ℕ) (year room n : ℕ) : Type 0 where
   pub exact : JobsOfYear a year jobs
   pub bytes : n ≡ length (textOf jobs)
   pub fits : length (textOf jobs) ≤ room
-  pub lines : (printYear a year room) .lines ≡ textOf jobs
+  pub lines : (printYear a year room) .words ≡ textOf jobs
 
 module _ (a : List ℕ) (year room n : ℕ) (says : (printYear a year room) .reply ≡ done (n ∷ [])) where
   not-nothing : (m : ℕ) → printYear a year room ≡ nothing (refused m) → ⊥
-  not-nothing m e = refused-not-done m (n ∷ []) (ap (λ (p : Printing). p .reply) (sym e) ∙ says)
+  not-nothing m e = refused-not-done m (n ∷ []) (ap (λ (w : Writing). w .reply) (sym e) ∙ says)
 
   same-count : (m : ℕ) → done (m ∷ []) ≡ done (n ∷ []) → n ≡ m
   same-count m e = cc
@@ -204,9 +206,9 @@ module _ (a : List ℕ) (year room n : ℕ) (says : (printYear a year room) .rep
       record {
         jobs = jobs;
         exact = j;
-        bytes = same-count (length (textOf jobs)) (ap (λ (p : Printing). p .reply) (sym e) ∙ says);
+        bytes = same-count (length (textOf jobs)) (ap (λ (w : Writing). w .reply) (sym e) ∙ says);
         fits = h;
-        lines = ap (λ (p : Printing). p .lines) e;
+        lines = ap (λ (w : Writing). w .words) e;
       }
 
   pub print-done : PrintDone a year room n
@@ -214,7 +216,7 @@ module _ (a : List ℕ) (year room n : ℕ) (says : (printYear a year room) .rep
 
 -- Its bytes are within the buffer.
 pub printed-within : (a : List ℕ) (year : ℕ) (answer : Answer) (before after : List ℕ) (n : ℕ)
-    → Printed (printYear a year (length before)) answer before after → answer .reply ≡ Value n → n ≤ length before
+    → Wrote (printYear a year (length before)) answer before after → answer .reply ≡ Value n → n ≤ length before
 printed-within a year answer before after n p e =
     let d = print-done a year (length before) n (sym (p .reply) ∙ ap saidBy e) in
     rw (d .bytes) (d .fits)

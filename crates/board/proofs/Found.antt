@@ -16,8 +16,8 @@ use Rattle.replies.specs.declared.Reply.the-variants.{Done, Value, Absent, Refu
 use Rattle.replies.specs.Replies.{Said, done, absent, refused, saidBy}
 use Rattle.rules.specs.declared.Call.the-variants.{Get}
 use Rattle.rules.specs.Get.{get}
-use Rattle.rules.specs.Step.{effect, step}
-use Rattle.index.specs.Answered.{Answered}
+use Rattle.rules.specs.Step.{effect, step, outcomeOf}
+use Rattle.replies.specs.Answered.{Answered}
 use Rattle.text.proofs.Digits.{length-decimal}
 use Rattle.board.specs.declared.count.Counted.the-variants.{Bytes, Refused}
 use Rattle.board.specs.Jobs.{jobKey}
@@ -28,7 +28,7 @@ use Rattle.board.proofs.Lookups.{bytes-each, jobTurn, monthTurn, month-
 
 module _ (a : List ℕ) (year month number : ℕ) where
   -- What a get of the job's key has answered, the lookup says.
-  pub got : (key : ℕ) (answer : Answer) (after : List ℕ) → key ≡ jobKey year month number → Answered (step a 0 (Get key)) answer after
+  pub got : (key : ℕ) (answer : Answer) (after : List ℕ) → key ≡ jobKey year month number → Answered (outcomeOf a (Get key)) answer after
       → get a (jobKey year month number) ≡ saidBy (answer .reply)
   unfolding step effect
   got key answer after e d = rw (← e) (sym (d .reply))

@@ -17,8 +17,8 @@ use Rattle.replies.specs.declared.Reply.the-variants.{Refused as RefusedReply}
 use Rattle.replies.specs.Replies.{numberOf, saidBy, unless}
 use Rattle.replies.proofs.Sayable.{given-by, unless-given}
 use Rattle.rules.specs.declared.Call.{Call}
-use Rattle.rules.specs.Step.{step}
-use Rattle.index.specs.Answered.{Answered}
+use Rattle.rules.specs.Step.{outcomeOf}
+use Rattle.replies.specs.Answered.{Answered}
 use Rattle.board.specs.declared.job.Keyed.{Keyed}
 use Rattle.board.specs.declared.job.Keyed.the-variants.{Key, Refused}
 use Rattle.board.specs.Jobs.{validYear, validMonth, validNumber, jobKey, yearTests, jobTests, behind, onJob, KeyedBy}
@@ -116,7 +116,7 @@ module _ (year month number : ℕ) where
   module _ (a : List ℕ) (call : ℕ → Call) (answer : Answer) where
     -- Behind the tests the index's call on the job's key has been made.
     pub job-called : (k : Keyed) (key : ℕ) (after : List ℕ) → KeyedBy k year month number → k ≡ Key key
-        → Answered (step a 0 (call key)) answer after → Answered (onJob a year month number call) answer after
+        → Answered (outcomeOf a (call key)) answer after → Answered (onJob a year month number call) answer after
     unfolding onJob behind
     job-called k key after h e d =
         let p = keyed-key k key h e in

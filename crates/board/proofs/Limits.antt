@@ -15,7 +15,7 @@ use Rattle.replies.specs.Replies.{Said, refused, refuse, changed}
 use Rattle.rules.specs.declared.Call.{Call}
 use Rattle.rules.specs.declared.Call.the-variants.{Get, Put}
 use Rattle.rules.specs.Get.{get}
-use Rattle.rules.specs.Step.{effect, step}
+use Rattle.rules.specs.Step.{effect, step, outcomeOf}
 use Rattle.rules.proofs.Range.{step-length, extent, step-untouched}
 use Rattle.rules.proofs.Local.{Alike, SameOutcome, step-local}
 use Rattle.rules.proofs.Bound.{put-bound}
@@ -35,26 +35,26 @@ module _ (a : List ℕ) (year month number : ℕ) (call : ℕ → Call) where
   key = jobKey year month number
 
   -- What holds of the index's call and of every refusal by the board's tests holds of the board's call.
-  job-law : (P : Outcome Said → Type 0) → ((r : Refusal) → P (refusedOn a r)) → P (step a 0 (call key)) → P (onJob a year month number call)
+  job-law : (P : Outcome Said → Type 0) → ((r : Refusal) → P (refusedOn a r)) → P (outcomeOf a (call key)) → P (onJob a year month number call)
   unfolding onJob behind
   job-law P otherwise passed = go (jobTests year month number)
     where
-      go : (t : Option Refusal) → P (behind t a (step a 0 (call key)))
+      go : (t : Option Refusal) → P (behind t a (outcomeOf a (call key)))
       go none = passed
       go (some r) = otherwise r
 
   -- The array keeps its length, and words beyond those that the call may touch stay.
   pub job-length : length ((onJob a year month number call) .after) ≡ length a
-  job-length = job-law (λ o. length (o .after) ≡ length a) (λ r. refl) (step-length a 0 (call key))
+  job-length = job-law (λ o. length (o .after) ≡ length a) (λ r. refl) (step-length a [] (call key))
 
   pub job-untouched : (i : ℕ) → extent a (call key) ≤ i → word ((onJob a year month number call) .after) i ≡ word a i
-  job-untouched i h = job-law (λ o. word (o .after) i ≡ word a i) (λ r. refl) (step-untouched a 0 (call key) i h)
+  job-untouched i h = job-law (λ o. word (o .after) i ≡ word a i) (λ r. refl) (step-untouched a [] (call key) i h)
 
   -- Refusals 1 to 4 and 8 to 13 change nothing.
   pub job-unchanged : (n : ℕ) → (onJob a year month number call) .reply ≡ refused n → (n ≤ 4) ⊎ (8 ≤ n) → Unchanged a (onJob a year month number call)
   job-unchanged n e which =
       job-law (λ o. o .reply ≡ refused n → Unchanged a o) (λ r q. record { after = refl; made = refl })
-      (λ q. refusal-unchanged a 0 (call key) n q which) e
+      (λ q. refusal-unchanged a [] (call key) n q which) e
 
 -- Reply and stores follow from the words that D and S take, and the length.
 pub job-local : (a b : List ℕ) (year month number : ℕ) (call : ℕ → Call) → Alike a b (call (jobKey year month number))
@@ -63,12 +63,12 @@ unfolding onJob behind
 job-local a b year month number call s = go (jobTests year month number)
   where
     go : (t : Option Refusal)
-        → SameOutcome a b (behind t a (step a 0 (call (jobKey year month number)))) (behind t b (step b 0 (call (jobKey year month number))))
-    go none = step-local a b 0 (call (jobKey year month number)) s
+        → SameOutcome a b (behind t a (outcomeOf a (call (jobKey year month number)))) (behind t b (outcomeOf b (call (jobKey year month number))))
+    go none = step-local a b [] (call (jobKey year month number)) s
     go (some r) = record { reply = refl; made = refl; words = λ i h. h }
 
 -- A set makes at most as many stores as a put.
-put-made : (a : List ℕ) (key value allowance : ℕ) → (step a 0 (Put key value allowance)) .made ≤ 9764
+put-made : (a : List ℕ) (key value allowance : ℕ) → (outcomeOf a (Put key value allowance)) .made ≤ 9764
 unfolding step effect changed cut
 put-made a key value allowance = omega (arith, put-bound a key value)
 
@@ -83,7 +83,7 @@ set-bound a year month number pages allowance =
 module _ (a b : List ℕ) (year : ℕ) (s : (key : ℕ) → Alike a b (Get key)) where
   same-get : (key : ℕ) → get a key ≡ get b key
   unfolding step effect
-  same-get key = (step-local a b 0 (Get key) (s key)) .reply
+  same-get key = (step-local a b [] (Get key) (s key)) .reply
 
   same-month : (numbers : List ℕ) (month : ℕ) → monthLookups a year numbers month ≡ monthLookups b year numbers month
   unfolding monthLookups

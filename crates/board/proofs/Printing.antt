@@ -5,18 +5,20 @@ use mathlib.Core.Path.{_≡_, refl, ap, _∙_}
 use mathlib.Core.Bool.{true, false}
 use mathlib.Core.List.{List, [], _∷_}
 use mathlib.Core.Option.{none, some}
-use native.Mathlib.Nat.{zero-add}
 use borrow.Author.Tests.{le-leb, lt-leb}
 use lib.ListN.{length}
 use Rattle.stores.specs.Written.{Written}
+use Rattle.stores.proofs.Written.{written-at-front}
 use Rattle.replies.specs.declared.Answer.{Answer}
 use Rattle.replies.specs.declared.Refusal.{Refusal}
 use Rattle.replies.specs.declared.Refusal.the-variants.{ShortList, BadYear}
 use Rattle.replies.specs.declared.Reply.the-variants.{Value, Refused as RefusedReply}
 use Rattle.replies.specs.Replies.{Said, done, refused, refuse, saidBy, unless}
+use Rattle.replies.specs.Writing.{Writing, nothing, behindTests}
+use Rattle.replies.specs.Answered.{Wrote}
 use Rattle.board.specs.declared.count.Counted.the-variants.{Bytes, Refused}
 use Rattle.board.specs.Jobs.{validYear, yearTests}
-use Rattle.board.specs.Print.{Lookup, yearLookups, linesIn, refusedIn, Printing, nothing, fitted, behindLookups, behindTests, printOf, printOver, allNumbers, printYear, Printed}
+use Rattle.board.specs.Print.{Lookup, yearLookups, linesIn, refusedIn, fitted, behindLookups, printOf, printOver, allNumbers, printYear}
 use Rattle.board.specs.Passes.{bytesOf, CountedBy}
 
 -- ---- The definition, case by case
@@ -43,40 +45,40 @@ module _ (a : List ℕ) (year room : ℕ) where
   print-short y e h = print-looks y ∙ rw (e, lt-leb (bytesOf looked) room h) refl
 
   pub print-fits : validYear year ≡ true → refusedIn looked ≡ none → bytesOf looked ≤ room
-      → printYear a year room ≡ record { reply = done (bytesOf looked ∷ []); lines = linesIn looked }
+      → printYear a year room ≡ record { reply = done (bytesOf looked ∷ []); words = linesIn looked }
   unfolding printOf behindLookups fitted
   print-fits y e h = print-looks y ∙ rw (e, le-leb (bytesOf looked) room h) refl
 
 -- ---- From what the code has answered
 
 -- A print that writes nothing leaves the buffer as it was.
-printed-nothing : (p : Printing) (said : Said) (answer : Answer) (before : List ℕ) → p ≡ nothing said
-    → saidBy (answer .reply) ≡ said → answer .stores ≡ 0 → Printed p answer before before
-printed-nothing p said answer before e r s = rw e (record { reply = r; stores = s; bytes = refl })
+printed-nothing : (w : Writing) (said : Said) (answer : Answer) (before : List ℕ) → w ≡ nothing said
+    → saidBy (answer .reply) ≡ said → answer .stores ≡ 0 → Wrote w answer before before
+printed-nothing w said answer before e r s = rw e (record { reply = r; stores = s; left = refl })
 
 module _ (a : List ℕ) (year : ℕ) (before : List ℕ) (answer : Answer) where
   pub printed-bad-year : validYear year ≡ false → (answer .reply ≡ RefusedReply BadYear) × (answer .stores ≡ 0)
-      → Printed (printYear a year (length before)) answer before before
+      → Wrote (printYear a year (length before)) answer before before
   printed-bad-year y w =
       printed-nothing _ _ answer before (print-bad-year a year (length before) y) (ap saidBy (w .0)) (w .1)
 
   pub printed-refused : (r : Refusal) → validYear year ≡ true → CountedBy (Refused r) (yearLookups a year allNumbers)
-      → (answer .reply ≡ RefusedReply r) × (answer .stores ≡ 0) → Printed (printYear a year (length before)) answer before before
+      → (answer .reply ≡ RefusedReply r) × (answer .stores ≡ 0) → Wrote (printYear a year (length before)) answer before before
   printed-refused r y k w =
       printed-nothing _ _ answer before (print-refused a year (length before) _ y k) (ap saidBy (w .0)) (w .1)
 
   pub printed-short : (n : ℕ) → validYear year ≡ true → CountedBy (Bytes n) (yearLookups a year allNumbers) → length before < n
-      → (answer .reply ≡ RefusedReply ShortList) × (answer .stores ≡ 0) → Printed (printYear a year (length before)) answer before before
+      → (answer .reply ≡ RefusedReply ShortList) × (answer .stores ≡ 0) → Wrote (printYear a year (length before)) answer before before
   printed-short n y k h w =
       printed-nothing _ _ answer before (print-short a year (length before) y (k .0) (rw (k .1) at h)) (ap saidBy (w .0)) (w .1)
 
   pub printed-done : (n m : ℕ) (after : List ℕ) → validYear year ≡ true → CountedBy (Bytes n) (yearLookups a year allNumbers) → n ≤ length before
       → Written (linesIn (yearLookups a year allNumbers)) 0 before m after
-      → (answer .reply ≡ Value n) × (answer .stores ≡ 0) → Printed (printYear a year (length before)) answer before after
+      → (answer .reply ≡ Value n) × (answer .stores ≡ 0) → Wrote (printYear a year (length before)) answer before after
   printed-done n m after y k h w v =
       rw (print-fits a year (length before) y (k .0) (rw (k .1) at h))
       (record {
         reply = ap saidBy (v .0) ∙ ap (λ (x : ℕ). done (x ∷ [])) (k .1);
         stores = v .1;
-        bytes = w .list ∙ rw (zero-add (bytesOf (yearLookups a year allNumbers))) refl;
+        left = written-at-front (linesIn (yearLookups a year allNumbers)) before m after w;
       })

@@ -8,10 +8,11 @@ use mathlib.Core.Option.{Option, none, some}
 use native.Mathlib.Omega.{arith}
 use borrow.Author.Tests.{eqb-true}
 use lib.Dec.{eqb}
-use lib.ListN.{length, take, drop, getD, length-append}
-use lib.Seq.{take-at}
+use lib.ListN.{length, take, getD, length-append}
 use Rattle.stores.specs.Lists.{allBelow, numbersSame}
+use Rattle.stores.specs.Written.{atFront}
 use Rattle.stores.proofs.Lists.{all-at}
+use Rattle.stores.proofs.Written.{at-front-words}
 use Rattle.stores.proofs.Tests.{and-left, and-right}
 use Rattle.rules.proofs.Lookups.{found-below}
 use Rattle.text.specs.Parts.{tab, lineFeed, fieldsOf}
@@ -149,8 +150,9 @@ text-read (j ∷ js) w =
 pub reads-back : ReadsBack
 reads-back a words year bytes answer before after p says =
     let d : PrintDone a year (length before) bytes = print-done a year (length before) bytes (sym (p .reply) ∙ says) in
-    let written : after ≡ textOf (d .jobs) ++ drop (length (textOf (d .jobs))) before = p .bytes ∙ rw (d .lines) refl in
-    let front : take bytes after ≡ textOf (d .jobs) = rw written (take-at (textOf (d .jobs)) _ bytes (sym (d .bytes))) in
+    let written : after ≡ atFront (textOf (d .jobs)) before = p .left ∙ rw (d .lines) refl in
+    let front : take bytes after ≡ textOf (d .jobs) =
+    ap (λ (n : ℕ). take n after) (d .bytes) ∙ rw written (at-front-words (textOf (d .jobs)) before) in
     let small : (j : Job) → List·Memᴰ j (d .jobs) → Writable j =
     λ j m.
     let n : j .number ≤ 4095 = number-bound (j .number) (d .exact .numbers j m) in

@@ -12,13 +12,14 @@ use Rattle.stores.specs.Lists.{each, numbersSame}
 use Rattle.stores.specs.Store.{Store, store, word, apply}
 use Rattle.stores.specs.Plan.{Outcome}
 use Rattle.replies.specs.Replies.{Said, done, absent, refused, saidSame}
+use Rattle.replies.specs.Writing.{Writing, behindTests}
 use Rattle.rules.specs.declared.Call.the-variants.{Format}
-use Rattle.rules.specs.Step.{step}
+use Rattle.rules.specs.Step.{outcomeOf}
 use Rattle.rules.proofs.Table.{computed}
 use Rattle.text.specs.Parts.{startedBy, parts, nonempty, linesOf, fieldsOf}
 use Rattle.text.specs.Number.{isDigit, allDigits, valueFrom, number, spelled, decimal}
 use Rattle.board.specs.Jobs.{validYear, validMonth, validNumber, jobKey, yearTests, jobTests, behind, onJob, setJob, readJob, removeJob}
-use Rattle.board.specs.Print.{monthName, Job, job, lineOf, jobLine, textOf, monthLookups, yearLookups, jobFound, jobsIn, firstRefusal, refusedIn, Printing, fitted, behindLookups, behindTests, printOf, printOver}
+use Rattle.board.specs.Print.{monthName, Job, job, lineOf, jobLine, textOf, monthLookups, yearLookups, jobFound, jobsIn, firstRefusal, refusedIn, fitted, behindLookups, printOf, printOver}
 use Rattle.board.specs.ReadBack.{monthFrom, monthNamed, jobOf, jobOfFields, inFront, jobsOfLines, jobsRead}
 
 -- ---- Rows
@@ -74,8 +75,8 @@ callsPass : List ℕ → List Made → List Store → Bool
 callsPass a [] words = wordsSeen a words
 callsPass a (m ∷ ms) words = saidSo (outcome a (m .call)) m && callsPass ((outcome a (m .call)) .after) ms words
 
-printSame : Printing → Wanted → Bool
-printSame p w = saidSame (p .reply) (w .said) && numbersSame (p .lines) (w .lines)
+printSame : Writing → Wanted → Bool
+printSame p w = saidSame (p .reply) (w .said) && numbersSame (p .words) (w .lines)
 
 printsPass : List ℕ → List Wanted → Bool
 printsPass a [] = true
@@ -109,7 +110,7 @@ allPass (r ∷ rs) = passes r && allPass rs
 
 -- `lent` words, all 0, with an index of D and S.
 formatted : (lent D S : ℕ) → List ℕ
-formatted lent D S = (step (replicate lent 0) 0 (Format D S 100)) .after
+formatted lent D S = (outcomeOf (replicate lent 0) (Format D S 100)) .after
 
 -- Two months of 2026 and a job of 2027, set in no order.
 jobsSet : List JobCall

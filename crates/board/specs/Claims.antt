@@ -10,9 +10,11 @@ use lib.ListN.{length, take}
 use Rattle.stores.specs.Store.{word}
 use Rattle.replies.specs.declared.Answer.{Answer}
 use Rattle.replies.specs.Replies.{done, refused, saidBy}
+use Rattle.replies.specs.Writing.{Writing, nothing}
+use Rattle.replies.specs.Answered.{Wrote}
 use Rattle.rules.specs.Get.{get}
 use Rattle.board.specs.Jobs.{validYear, validMonth, validNumber, jobKey}
-use Rattle.board.specs.Print.{Job, job, textOf, Printing, nothing, printYear, Printed}
+use Rattle.board.specs.Print.{Job, job, textOf, printYear}
 use Rattle.board.specs.ReadBack.{jobsRead}
 
 -- ---- The year's jobs
@@ -48,13 +50,13 @@ pub record Refuses (a : List ℕ) (year n : ℕ) : Type 0 where
 
 -- The four cases of a print, p: 11 for a bad year; the refusal of a lookup, which is 1 or 3; 10 where the lines don't fit; and the
 -- lines of exactly the year's jobs, with their number of bytes.
-pub data PrintSays (a : List ℕ) (year room : ℕ) (p : Printing) : Type 0 where
+pub data PrintSays (a : List ℕ) (year room : ℕ) (p : Writing) : Type 0 where
   bad-year : validYear year ≡ false → p ≡ nothing (refused 11) → PrintSays a year room p
   passed-on : (n : ℕ) → validYear year ≡ true → Refuses a year n → (n ≡ 1) ⊎ (n ≡ 3) → p ≡ nothing (refused n) → PrintSays a year room p
   too-long : (jobs : List Job) → validYear year ≡ true → ((n : ℕ) → Refuses a year n → ⊥) → JobsOfYear a year jobs
       → room < length (textOf jobs) → p ≡ nothing (refused 10) → PrintSays a year room p
   printed : (jobs : List Job) → validYear year ≡ true → ((n : ℕ) → Refuses a year n → ⊥) → JobsOfYear a year jobs
-      → length (textOf jobs) ≤ room → p ≡ record { reply = done (length (textOf jobs) ∷ []); lines = textOf jobs } → PrintSays a year room p
+      → length (textOf jobs) ≤ room → p ≡ record { reply = done (length (textOf jobs) ∷ []); words = textOf jobs } → PrintSays a year room p
 
 -- Every print, of every array and year and into every buffer, is one of these.
 abbrev pub PrintCases : Type 0
@@ -74,6 +76,6 @@ Words a = (i : ℕ) → word a i < 2 ^ 64
 abbrev pub ReadsBack : Type 0
 ReadsBack =
     (a : List ℕ) → Words a → (year bytes : ℕ) (answer : Answer) (before after : List ℕ)
-    → Printed (printYear a year (length before)) answer before after
+    → Wrote (printYear a year (length before)) answer before after
     → saidBy (answer .reply) ≡ done (bytes ∷ [])
     → (jobs : List Job) × (jobsRead (take bytes after) ≡ some jobs) × JobsOfYear a year jobs

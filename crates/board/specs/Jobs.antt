@@ -12,7 +12,7 @@ use Rattle.replies.specs.declared.Refusal.the-variants.{BadYear, BadMonth, BadN
 use Rattle.replies.specs.Replies.{Said, refuse, unless}
 use Rattle.rules.specs.declared.Call.{Call}
 use Rattle.rules.specs.declared.Call.the-variants.{Get, Put, Remove}
-use Rattle.rules.specs.Step.{step}
+use Rattle.rules.specs.Step.{outcomeOf}
 use Rattle.board.specs.declared.job.Keyed.{Keyed}
 use Rattle.board.specs.declared.job.Keyed.the-variants.{Key, Refused}
 
@@ -51,7 +51,7 @@ behind (some r) a o = record { reply = refuse r; made = 0; after = a }
 
 -- A call of the index on a job's key, behind the job's tests.
 unfoldable pub onJob : List ℕ → (year month number : ℕ) → (ℕ → Call) → Outcome Said
-onJob a year month number call = behind (jobTests year month number) a (step a 0 (call (jobKey year month number)))
+onJob a year month number call = behind (jobTests year month number) a (outcomeOf a (call (jobKey year month number)))
 
 -- Sets a job's pages.
 abbrev pub setJob : List ℕ → (year month number pages allowance : ℕ) → Outcome Said

@@ -1,16 +1,14 @@
 -- Document 02, wish 2: the lines of a printed year.
 -- Assumes nothing.
 use Prim.Native.Nat.{ℕ, suc, _-_}
-use mathlib.Core.Path.{_≡_}
 use mathlib.Core.List.{List, [], _∷_, _++_}
 use mathlib.Core.Option.{Option, none, some}
 use lib.Dec.{leb}
-use lib.ListN.{length, drop, getD}
+use lib.ListN.{length, getD}
 use Rattle.stores.specs.Lists.{pick, each}
-use Rattle.replies.specs.declared.Answer.{Answer}
-use Rattle.replies.specs.declared.Refusal.{Refusal}
 use Rattle.replies.specs.declared.Refusal.the-variants.{ShortList}
-use Rattle.replies.specs.Replies.{Said, done, absent, refused, refuse, saidBy}
+use Rattle.replies.specs.Replies.{Said, done, absent, refused, refuse}
+use Rattle.replies.specs.Writing.{Writing, nothing, behindTests}
 use Rattle.rules.specs.Get.{get}
 use Rattle.text.specs.Parts.{tab, lineFeed}
 use Rattle.text.specs.Number.{decimal}
@@ -95,55 +93,35 @@ firstRefusal (done values) later = later
 firstRefusal absent later = later
 firstRefusal (refused n) later = some n
 
--- The number with which a lookup is refused, if one is. That every refused one has this number is `any-refused` (proofs/Printing).
+-- The number with which a lookup is refused, if one is. That every refused one has this number is `any-refusal` (proofs/Cases).
 unfoldable pub refusedIn : List Lookup → Option ℕ
 refusedIn [] = none
 refusedIn (l ∷ ls) = firstRefusal (l .said) (refusedIn ls)
 
 -- ---- The call
 
--- What a print says, and the lines that it writes.
-pub record Printing : Type 0 where
-  pub reply : Said
-  pub lines : List ℕ
-
--- A print that says this and writes nothing.
-abbrev pub nothing : Said → Printing
-nothing said = record { reply = said; lines = [] }
-
 -- The lines with their number of bytes, where they fit a buffer of `room` bytes; else 10.
-unfoldable pub fitted : (room : ℕ) → (lines : List ℕ) → Printing
+unfoldable pub fitted : (room : ℕ) → (lines : List ℕ) → Writing
 fitted room lines =
-    pick (leb (length lines) room) (record { reply = done (length lines ∷ []); lines = lines }) (nothing (refuse ShortList))
+    pick (leb (length lines) room) (record { reply = done (length lines ∷ []); words = lines }) (nothing (refuse ShortList))
 
 -- A print behind the lookups: the refusal with this number goes before it.
-unfoldable pub behindLookups : Option ℕ → Printing → Printing
-behindLookups none p = p
-behindLookups (some n) p = nothing (refused n)
-
--- A print behind tests.
-unfoldable pub behindTests : Option Refusal → Printing → Printing
-behindTests none p = p
-behindTests (some r) p = nothing (refuse r)
+unfoldable pub behindLookups : Option ℕ → Writing → Writing
+behindLookups none w = w
+behindLookups (some n) w = nothing (refused n)
 
 -- The print of the lookups' jobs.
-unfoldable pub printOf : (room : ℕ) → List Lookup → Printing
+unfoldable pub printOf : (room : ℕ) → List Lookup → Writing
 printOf room ls = behindLookups (refusedIn ls) (fitted room (linesIn ls))
 
 -- The print of a year, of whose months these numbers are looked up: 11, the refusal of a lookup, 10.
-unfoldable pub printOver : (numbers : List ℕ) → List ℕ → (year room : ℕ) → Printing
+unfoldable pub printOver : (numbers : List ℕ) → List ℕ → (year room : ℕ) → Writing
 printOver numbers a year room = behindTests (yearTests year none) (printOf room (yearLookups a year numbers))
 
 -- The numbers of a month's jobs, 0 to 4095, rising.
 unfoldable pub allNumbers : List ℕ
 allNumbers = each (λ n. n ∷ []) 4096
 
--- The print of a year into a buffer of `room` bytes.
-unfoldable pub printYear : List ℕ → (year room : ℕ) → Printing
+-- The print of a year into a buffer of `room` bytes: what it says, and the lines that it writes.
+unfoldable pub printYear : List ℕ → (year room : ℕ) → Writing
 printYear a year room = printOver allNumbers a year room
-
--- The answer is that of the print p, and the buffer has its lines and behind them what stood there.
-pub record Printed (p : Printing) (answer : Answer) (before after : List ℕ) : Type 0 where
-  pub reply : saidBy (answer .reply) ≡ p .reply
-  pub stores : answer .stores ≡ 0
-  pub bytes : after ≡ p .lines ++ drop (length (p .lines)) before

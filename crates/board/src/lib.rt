@@ -18,9 +18,9 @@ use replies::Reply;
 use replies::without_store;
 use write::write_year;
 ghost use lib.ListN.{length};
-ghost use Rattle.index.specs.Answered.{Answered};
+ghost use Rattle.replies.specs.Answered.{Answered, Wrote};
 ghost use Rattle.board.specs.Jobs.{setJob, readJob, removeJob};
-ghost use Rattle.board.specs.Print.{printYear, Printed};
+ghost use Rattle.board.specs.Print.{printYear};
 
 // Sets a job's pages: the index's put on the job's key.
 pub fn set(
@@ -62,7 +62,7 @@ pub fn remove(words: &mut [u64], year: u64, month: u64, number: u64, allowance: 
 // Prints a year's jobs into the buffer, a line each, and answers the number of bytes; bytes behind them
 // stay. It looks each job up twice, first to learn whether the lines fit: nothing is written before.
 pub fn print(words: &[u64], year: u64, buffer: &mut [u8]) -> Answer
-    ensures { λ r. ⌜ Printed (printYear (now (words .entry)) year (length (now (buffer .entry)))) r (now (buffer .entry)) (now (buffer .exit)) ⌝ }
+    ensures { λ r. ⌜ Wrote (printYear (now (words .entry)) year (length (now (buffer .entry)))) r (now (buffer .entry)) (now (buffer .exit)) ⌝ }
 {
     if !valid_year(year) {
         return without_store(Reply::Refused(Refusal::BadYear));

@@ -10,7 +10,7 @@ use Rattle.stores.specs.Lists.{each}
 use Rattle.replies.specs.Replies.{Said, saidSame}
 use Rattle.rules.specs.declared.Call.{Call}
 use Rattle.rules.specs.declared.Call.the-variants.{Format, Get, Mend}
-use Rattle.rules.specs.Step.{step}
+use Rattle.rules.specs.Step.{outcomeOf}
 use Rattle.rules.proofs.Table.{computed}
 use Rattle.runs.specs.Map.{Map, empty, updated, fed, mapSays}
 use Rattle.runs.specs.Run.{start, mayFollow, isRecovery, recoveryAfter, claimedAtEnd, claimed, next, finish, validRun}
@@ -25,15 +25,15 @@ pub record Held : Type 0 where
 
 -- The array on which a format has just answered done.
 abbrev pub formatted : List ℕ
-formatted = (step (replicate 520 7) 0 (Format 2 4 67)) .after
+formatted = (outcomeOf (replicate 520 7) (Format 2 4 67)) .after
 
 -- One of the index's own calls.
 abbrev pub own : Call → BoardCall
-own c = calls (record { call = c; room = 0 })
+own c = calls (record { call = c; list = [] })
 
 -- What a get of a key says.
 abbrev pub lookup : List ℕ → ℕ → Said
-lookup a key = (step a 0 (Get key)) .reply
+lookup a key = (outcomeOf a (Get key)) .reply
 
 -- Sixteen jobs of January in year 1 that fill the window of number 7; the set of number 263 then splits their segment.
 abbrev pub sixteen : List BoardCall

@@ -14,7 +14,7 @@ use Rattle.replies.specs.declared.Refusal.{Refusal}
 use Rattle.replies.proofs.Outcomes.{refused-not-done}
 use Rattle.rules.specs.declared.Call.the-variants.{Get, Put, Remove}
 use Rattle.replies.specs.Replies.{Said, done, refused, numberOf}
-use Rattle.rules.specs.Step.{effect, step}
+use Rattle.rules.specs.Step.{effect, step, outcomeOf}
 use Rattle.runs.specs.Map.{View, keeps, mapSays, fed}
 use Rattle.runs.specs.Run.{Point, start, mayFollow, isRecovery, claimed, next, finish, Linked}
 use Rattle.runs.proofs.Runs.{runs-agree}
@@ -72,16 +72,16 @@ pub board-kept : (p : Point) → Good p → (c : BoardCall) → mayFollow (p .ne
     → CallKept p (boardView c) ((boardStep (p .array) c) .reply) ((boardStep (p .array) c) .after)
 unfolding onJob
 board-kept p good (sets year month number pages allowance) may =
-    behind-kept p good _ _ (λ m. call-kept p good 0 (Put (jobKey year month number) pages allowance) m) (jobTests year month number)
+    behind-kept p good _ _ (λ m. call-kept p good [] (Put (jobKey year month number) pages allowance) m) (jobTests year month number)
     (tests-late year month number) may
 board-kept p good (reads year month number) may =
-    behind-kept p good _ _ (λ m. call-kept p good 0 (Get (jobKey year month number)) m) (jobTests year month number)
+    behind-kept p good _ _ (λ m. call-kept p good [] (Get (jobKey year month number)) m) (jobTests year month number)
     (tests-late year month number) may
 board-kept p good (removes year month number allowance) may =
-    behind-kept p good _ _ (λ m. call-kept p good 0 (Remove (jobKey year month number) allowance) m) (jobTests year month number)
+    behind-kept p good _ _ (λ m. call-kept p good [] (Remove (jobKey year month number) allowance) m) (jobTests year month number)
     (tests-late year month number) may
 board-kept p good (prints year room) may = print-kept p good year room
-board-kept p good (calls r) may = call-kept p good (r .room) (r .call) may
+board-kept p good (calls r) may = call-kept p good (r .list) (r .call) may
 
 -- ---- The runs
 
@@ -104,7 +104,7 @@ board-history-rule a formatted run v =
 
 -- A read behind passed tests is the lookup of the job's key.
 read-looks-up : (a : List ℕ) (year month number : ℕ) → jobTests year month number ≡ none
-    → (readJob a year month number) .reply ≡ (step a 0 (Get (jobKey year month number))) .reply
+    → (readJob a year month number) .reply ≡ (outcomeOf a (Get (jobKey year month number))) .reply
 unfolding onJob behind
 read-looks-up a year month number t = rw t refl
 

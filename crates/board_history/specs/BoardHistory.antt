@@ -9,7 +9,7 @@ use Rattle.stores.specs.Plan.{Outcome}
 use Rattle.replies.specs.declared.Refusal.{Refusal}
 use Rattle.rules.specs.declared.Call.the-variants.{Get}
 use Rattle.replies.specs.Replies.{Said}
-use Rattle.rules.specs.Step.{step}
+use Rattle.rules.specs.Step.{step, outcomeOf}
 use Rattle.runs.specs.Map.{View, gets, puts, removes as takes, keeps, mapSays}
 use Rattle.runs.specs.Run.{Machine, start, claimedAtEnd, finish, validRun, AgreesWithMap}
 use Rattle.history.specs.History.{viewOf, Request, Formatted}
@@ -30,7 +30,7 @@ boardStep a (sets year month number pages allowance) = setJob a year month numbe
 boardStep a (reads year month number) = readJob a year month number
 boardStep a (removes year month number allowance) = removeJob a year month number allowance
 boardStep a (prints year room) = record { reply = (printYear a year room) .reply; made = 0; after = a }
-boardStep a (calls r) = step a (r .room) (r .call)
+boardStep a (calls r) = (step a (r .list) (r .call)) .outcome
 
 -- What the map is told of a call behind tests: nothing where they refuse.
 abbrev pub viewBehind : Option Refusal → View → View
@@ -53,7 +53,7 @@ board =
       Made = λ a c. Unit {0};
       step = boardStep;
       view = boardView;
-      Says = λ a key said. said ≡ (step a 0 (Get key)) .reply;
+      Says = λ a key said. said ≡ (outcomeOf a (Get key)) .reply;
       cutNeedsRecovery = true;
     }
 

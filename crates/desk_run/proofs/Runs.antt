@@ -13,7 +13,7 @@ use Rattle.stores.proofs.Written.{written-none, written-within, written-append}
 use Rattle.replies.specs.declared.Answer.{Answer}
 use Rattle.rules.specs.declared.Call.{Call}
 use Rattle.replies.specs.Replies.{saidBy}
-use Rattle.rules.specs.Step.{Performed}
+use Rattle.rules.specs.Step.{step, Performed}
 use Rattle.text.specs.Parts.{linesOf}
 use Rattle.desk_text.specs.Line.{spoken, callOf}
 use Rattle.text.specs.Script.{NextLine}
@@ -34,11 +34,11 @@ module _ (line list a : List ℕ) (at : ℕ) (out : List ℕ) (next : ℕ) (out�
       → Performed call a list answer a′ list′
       → Written (answerLine letter (saidBy (answer .reply)) (answer .stores)) at out next out′
       → LineRan line list a at out next a′ out′
-  unfolding ranCall
+  unfolding ranCall step
   line-called letter call answer a′ list′ e p w =
       record {
-        text = rw e (rw (p .reply, p .stores) at w);
-        words = rw e (p .words);
+        text = rw e (rw (p .answered .reply, p .answered .stores) at w);
+        words = rw e (p .answered .words);
         short = omega (arith, w .behind, length-answer letter (answer .reply) (answer .stores));
       }
 

@@ -8,7 +8,7 @@ use lib.ListN.{length, replicate}
 use Rattle.stores.specs.Lists.{pick}
 use Rattle.stores.specs.Plan.{Outcome}
 use Rattle.replies.specs.Replies.{Said}
-use Rattle.rules.specs.Step.{step}
+use Rattle.rules.specs.Step.{effect, carriedOut}
 use Rattle.text.specs.Parts.{linesOf}
 use Rattle.desk_text.specs.Line.{Spoken, callOf}
 use Rattle.desk_text.specs.Output.{answerLine, otherLine, tooLongLine}
@@ -26,10 +26,11 @@ pub record Ran : Type 0 where
 abbrev pub answered : (letter : ℕ) → Outcome Said → Ran
 answered letter o = record { text = answerLine letter (o .reply) (o .made); words = o .after }
 
--- One line on the index array a, with a list array of `room` words: a call is made, any other line prints a question mark.
+-- One line on the index array a, with a list array of `room` words: a call is made, any other line prints a question mark. What the
+-- list array holds does not matter: the desk program prints no record.
 unfoldable pub ranCall : (room : ℕ) → List ℕ → Option Spoken → Ran
 ranCall room a none = record { text = otherLine; words = a }
-ranCall room a (some line) = answered (line .letter) (step a room (line .call))
+ranCall room a (some line) = answered (line .letter) (carriedOut (effect a room (line .call)) a)
 
 -- What one line gives, followed by what the later ones give.
 abbrev pub followed : Ran → Ran → Ran

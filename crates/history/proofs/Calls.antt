@@ -21,6 +21,7 @@ use Rattle.rules.specs.Layout.{segmentAddress, segmentOf, entryAt, keyAddress}
 use Rattle.rules.specs.Keys.{index}
 use Rattle.rules.specs.Slots.{hit}
 use Rattle.replies.specs.Replies.{Said, done, absent, refused, refuse, unless, tested, replied, changed, isDone, isRefusal}
+use Rattle.replies.specs.Writing.{behindTests}
 use Rattle.rules.specs.Format.{formatTests, format}
 use Rattle.rules.specs.Get.{keySegment, keyTests, entryTests, getTests, get}
 use Rattle.rules.specs.Put.{putTests, put}
@@ -95,9 +96,9 @@ get-kept p good key =
 -- ---- List
 
 -- Where recovery is not needed, a list says how many records there are, or 10.
-pub list-says : {m : Map} {g d S : ℕ} {f : ℕ → ℕ} {a : List ℕ} → Inv m g d S f a → Recovered g f a → (room : ℕ)
-    → (list a room ≡ done (length (records a) ∷ [])) ⊎ (list a room ≡ refused 10)
-unfolding list listTests replied unless
+list-says : {m : Map} {g d S : ℕ} {f : ℕ → ℕ} {a : List ℕ} → Inv m g d S f a → Recovered g f a → (room : ℕ)
+    → ((list a room) .reply ≡ done (length (records a) ∷ [])) ⊎ ((list a room) .reply ≡ refused 10)
+unfolding list listTests behindTests unless
 list-says {a = a} inv same room =
     ⊎-elim
     (λ (t : leb (2 * length (records a)) room ≡ true).
@@ -106,15 +107,15 @@ list-says {a = a} inv same room =
     inr (rw (header-valid (shape-valid (inv .shape)), inv-directory-tests inv _ same, t)))
     (cases (leb (2 * length (records a)) room))
 
-pub list-kept : (p : Point) → Good p → p .needsRecovery ≡ false → (room : ℕ) → CallKept p keeps (list (p .array) room) (p .array)
+pub list-kept : (p : Point) → Good p → p .needsRecovery ≡ false → (room : ℕ) → CallKept p keeps ((list (p .array) room) .reply) (p .array)
 unfolding fed isRecovery
 list-kept p good calm room =
     let w = good .whole calm in
     ⊎-elim
-    (λ (e : list (p .array) room ≡ done (length (records (p .array)) ∷ [])).
-    nothing-changed p keeps (list (p .array) room) good refl (rw e) refl Prim.tt (rw e))
-    (λ (e : list (p .array) room ≡ refused 10).
-    nothing-changed p keeps (list (p .array) room) good refl (rw e) refl Prim.tt (rw e))
+    (λ (e : (list (p .array) room) .reply ≡ done (length (records (p .array)) ∷ [])).
+    nothing-changed p keeps ((list (p .array) room) .reply) good refl (rw e) refl Prim.tt (rw e))
+    (λ (e : (list (p .array) room) .reply ≡ refused 10).
+    nothing-changed p keeps ((list (p .array) room) .reply) good refl (rw e) refl Prim.tt (rw e))
     (list-says (w .inv) (w .recovered) room)
 
 -- ---- Put and remove

@@ -22,7 +22,7 @@ use Rattle.rules.specs.Layout.{header, wordsFor, validShape, entryAddress, segm
 use Rattle.rules.specs.Keys.{window}
 use Rattle.replies.specs.Replies.{done, changed}
 use Rattle.rules.specs.Format.{formatTests, formatStores, format}
-use Rattle.rules.specs.Step.{effect, step}
+use Rattle.rules.specs.Step.{effect, step, outcomeOf}
 use Rattle.replies.proofs.Outcomes.{Complete, CutShort, changed-cases, refused-not-done, tests-passed, tested-none}
 use Rattle.rules.proofs.Put.{unless-none}
 use Rattle.rules.proofs.Words.{within-inside, key-within}
@@ -39,8 +39,8 @@ record FormatDone (before : List ℕ) (D S : ℕ) (a : List ℕ) : Type 0 where
   room : wordsFor D S ≤ length before
   left : a ≡ apply (formatStores D S) before
 
-format-done : (before : List ℕ) (D S allowance : ℕ) → (step before 0 (Format D S allowance)) .reply ≡ done []
-    → FormatDone before D S ((step before 0 (Format D S allowance)) .after)
+format-done : (before : List ℕ) (D S allowance : ℕ) → (outcomeOf before (Format D S allowance)) .reply ≡ done []
+    → FormatDone before D S ((outcomeOf before (Format D S allowance)) .after)
 unfolding effect step format formatTests
 format-done before D S allowance e =
     ⊎-elim

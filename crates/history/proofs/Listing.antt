@@ -1,9 +1,9 @@
 -- The records of an array that needs no recovery are the map's: each key that has a value once, with its value, and no other.
 -- So are the same records in any other order.
 -- Assumes nothing.
-use mathlib.Core.Path.{_≡_, refl, sym, ap, ap₂, _∙_}
+use mathlib.Core.Path.{_≡_, refl, sym, ap, _∙_}
 use mathlib.Core.Bool.{Bool, true, false}
-use mathlib.Core.List.{List, [], _∷_, _++_, List·Memᴰ, List·Memᴰ·head, List·Memᴰ·tail, List·Memᴰ·not-nil, List·Memᴰ·cases-cons, List·Memᴰ·eq-of-singleton, List·Permᴰ, List·Permᴰ·nil, List·Permᴰ·cons, List·Permᴰ·swap, List·Permᴰ·trans}
+use mathlib.Core.List.{List, [], _∷_, _++_, List·Memᴰ, List·Memᴰ·head, List·Memᴰ·tail, List·Memᴰ·not-nil, List·Memᴰ·eq-of-singleton}
 use mathlib.Core.Option.{none, some}
 use mathlib.Core.Logic.{⊎-elim}
 use Prim.Native.Nat.{ℕ, zero, suc, _+_, _*_, _^_, _≤_, _<_}
@@ -241,46 +241,3 @@ module _ {m : Map} {g d S : ℕ} {f : ℕ → ℕ} {a : List ℕ} (inv : Inv m g
   -- The records are the map's.
   pub records-list-map : ListsMap m (records a)
   records-list-map = record { right = records-right; once = records-once; no-other = records-no-other }
-
--- ---- Any order
-
--- A member of a list is a member of the list in any other order.
-perm-mem : {A : Type 0} {x : A} {ts rs : List A} → List·Permᴰ ts rs → List·Memᴰ x ts → List·Memᴰ x rs
-perm-mem List·Permᴰ·nil k = k
-perm-mem {x = x} (List·Permᴰ·cons {a = a} {l₁ = ts} e p) k =
-    ⊎-elim (λ (q : x ≡ a). List·Memᴰ·head (q ∙ e)) (λ (l : List·Memᴰ x ts). List·Memᴰ·tail (perm-mem p l)) (List·Memᴰ·cases-cons k)
-perm-mem {x = x} (List·Permᴰ·swap {a = a} {b = b} {l = ts} e q) k =
-    ⊎-elim
-    (λ (u : x ≡ a). List·Memᴰ·tail (List·Memᴰ·head (u ∙ e)))
-    (λ (l : List·Memᴰ x (b ∷ ts)).
-    ⊎-elim (λ (u : x ≡ b). List·Memᴰ·head (u ∙ q)) (λ (n : List·Memᴰ x ts). List·Memᴰ·tail (List·Memᴰ·tail n)) (List·Memᴰ·cases-cons l))
-    (List·Memᴰ·cases-cons k)
-perm-mem (List·Permᴰ·trans p q) k = perm-mem q (perm-mem p k)
-
--- A key stands as often in any other order.
-occurrences-perm : (key : ℕ) {ts rs : List Record} → List·Permᴰ ts rs → occurrences key ts ≡ occurrences key rs
-unfolding occurrences
-occurrences-perm key List·Permᴰ·nil = refl
-occurrences-perm key (List·Permᴰ·cons e p) =
-    ap₂ (λ (r : Record) (n : ℕ). pick (eqb (r .key) key) (suc n) n) e (occurrences-perm key p)
-occurrences-perm key (List·Permᴰ·swap {a = a} {b = b} {l = l} e q) =
-    swapped (eqb (a .key) key) (eqb (b .key) key)
-    ∙ ap₂ (λ (r t : Record). occurrences key (r ∷ t ∷ l)) q e
-  where
-    swapped : (p q : Bool)
-        → pick p (suc (pick q (suc (occurrences key l)) (occurrences key l))) (pick q (suc (occurrences key l)) (occurrences key l))
-        ≡ pick q (suc (pick p (suc (occurrences key l)) (occurrences key l))) (pick p (suc (occurrences key l)) (occurrences key l))
-    swapped true true = refl
-    swapped true false = refl
-    swapped false true = refl
-    swapped false false = refl
-occurrences-perm key (List·Permᴰ·trans p q) = occurrences-perm key p ∙ occurrences-perm key q
-
--- The map's records in another order are the map's.
-pub list-any-order : (m : Map) (rs ts : List Record) → List·Permᴰ ts rs → ListsMap m rs → ListsMap m ts
-list-any-order m rs ts p l =
-    record {
-      right = λ r k. l .right r (perm-mem p k);
-      once = λ key v e. occurrences-perm key p ∙ l .once key v e;
-      no-other = λ key e. occurrences-perm key p ∙ l .no-other key e;
-    }

@@ -2,7 +2,6 @@
 -- Assumes nothing.
 use mathlib.Core.Path.{_≡_, sym, _∙_}
 use mathlib.Core.Bool.{true}
-use lib.ListN.{length}
 use Rattle.replies.specs.Replies.{saidBy}
 use Rattle.rules.specs.Step.{effect, step, Performed}
 use Rattle.runs.specs.Run.{Point, mayFollow, next}
@@ -17,7 +16,8 @@ link-kept : (p : Point) → Good p → (l : Link) → Performed (l .call) (p .ar
     → mayFollow (p .needsRecovery) (viewOf (l .call)) (saidBy (l .answer .reply)) ≡ true
     → CallKept p (viewOf (l .call)) (saidBy (l .answer .reply)) (l .after)
 link-kept p good l done-so may =
-    rw (done-so .reply, done-so .words) (call-kept p good (length (l .list)) (l .call) (rw (done-so .reply) at may))
+    let d = done-so .answered in
+    rw (d .reply, d .words) (call-kept p good (l .list) (l .call) (rw (d .reply) at may))
 
 pub performed-history-rule : PerformedHistoryRule
 unfolding effect step next
@@ -31,9 +31,9 @@ performed-history-rule =
             D = f .D;
             S = f .S;
             allowance = f .allowance;
-            reply = sym (f .performed .reply) ∙ f .says-done;
-            left = f .performed .words;
+            reply = sym (f .performed .answered .reply) ∙ f .says-done;
+            left = f .performed .answered .words;
           });
       kept = λ p good l done-so may. let k = link-kept p good l done-so may in (k .agrees, k .good);
-      says = λ p good key c said g. g .said-so ∙ g .performed .reply ∙ get-is-map p good key c;
+      says = λ p good key c said g. g .said-so ∙ g .performed .answered .reply ∙ get-is-map p good key c;
     })

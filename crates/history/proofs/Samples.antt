@@ -9,7 +9,7 @@ use Rattle.stores.specs.Lists.{each}
 use Rattle.replies.specs.Replies.{Said, saidSame}
 use Rattle.rules.specs.declared.Call.{Call}
 use Rattle.rules.specs.declared.Call.the-variants.{Format, Get, Put, Remove, Mend, List as ListCall}
-use Rattle.rules.specs.Step.{step}
+use Rattle.rules.specs.Step.{outcomeOf}
 use Rattle.rules.proofs.Table.{computed}
 use Rattle.runs.specs.Map.{empty, updated, fed}
 use Rattle.runs.specs.Run.{start, mayFollow, isRecovery, recoveryAfter, claimedAtEnd, claimed, next, finish, validRun}
@@ -24,16 +24,16 @@ pub record Sample : Type 0 where
 
 -- The array on which a format has just answered done. It held 7 in every word before.
 abbrev pub formatted : List ℕ
-formatted = (step (replicate 520 7) 0 (Format 2 4 67)) .after
+formatted = (outcomeOf (replicate 520 7) (Format 2 4 67)) .after
 
 -- The calls as requests, each with a list array of 64 words.
 abbrev pub requests : List Call → List Request
 requests [] = []
-requests (c ∷ cs) = record { call = c; room = 64 } ∷ requests cs
+requests (c ∷ cs) = record { call = c; list = replicate 64 0 } ∷ requests cs
 
 -- What a get of a key says.
 abbrev pub lookup : List ℕ → ℕ → Said
-lookup a key = (step a 0 (Get key)) .reply
+lookup a key = (outcomeOf a (Get key)) .reply
 
 -- A valid run agrees with the map, and a run that is not valid is told as such.
 unfoldable pub passes : Sample → Bool

@@ -5,6 +5,7 @@ use mathlib.Core.Bool.{true, false}
 use mathlib.Core.List.{List, [], _∷_}
 use Prim.Native.Nat.{ℕ}
 use borrow.Author.Tests.{not-true}
+use lib.ListN.{length}
 use Rattle.rules.specs.declared.Call.{Call}
 use Rattle.rules.specs.declared.Call.the-variants.{Format, Get, Put, Remove, Mend, List as ListCall}
 use Rattle.rules.specs.Step.{effect, step}
@@ -33,28 +34,29 @@ good-start a formatted =
     }
 
 -- Any call that may come next, with any arguments, any allowance and any list array.
-pub call-kept : (p : Point) → Good p → (room : ℕ) (c : Call) → mayFollow (p .needsRecovery) (viewOf c) ((step (p .array) room c) .reply) ≡ true
-    → CallKept p (viewOf c) ((step (p .array) room c) .reply) ((step (p .array) room c) .after)
+pub call-kept : (p : Point) → Good p → (l : List ℕ) (c : Call)
+    → mayFollow (p .needsRecovery) (viewOf c) ((step (p .array) l c) .outcome .reply) ≡ true
+    → CallKept p (viewOf c) ((step (p .array) l c) .outcome .reply) ((step (p .array) l c) .outcome .after)
 unfolding effect step mayFollow
-call-kept p good room (Format D S allowance) may = format-called p good D S allowance may
-call-kept p good room (Get key) may = get-kept p good key
-call-kept p good room (Put key value allowance) may = put-called p good (not-true (p .needsRecovery) may) key value allowance
-call-kept p good room (Remove key allowance) may = remove-called p good (not-true (p .needsRecovery) may) key allowance
-call-kept p good room (Mend allowance) may = mend-called p good allowance
-call-kept p good room ListCall may = list-kept p good (not-true (p .needsRecovery) may) room
+call-kept p good l (Format D S allowance) may = format-called p good D S allowance may
+call-kept p good l (Get key) may = get-kept p good key
+call-kept p good l (Put key value allowance) may = put-called p good (not-true (p .needsRecovery) may) key value allowance
+call-kept p good l (Remove key allowance) may = remove-called p good (not-true (p .needsRecovery) may) key allowance
+call-kept p good l (Mend allowance) may = mend-called p good allowance
+call-kept p good l ListCall may = list-kept p good (not-true (p .needsRecovery) may) (length l)
 
 -- ---- The runs of the index
 
 -- The points of its runs are good, and of each call all holds that follows from what it keeps.
 invariant : (P : Point → Request → Type 0)
     → ((p : Point) (r : Request)
-    → CallKept p (viewOf (r .call)) ((step (p .array) (r .room) (r .call)) .reply) ((step (p .array) (r .room) (r .call)) .after) → P p r)
+    → CallKept p (viewOf (r .call)) ((step (p .array) (r .list) (r .call)) .outcome .reply) ((step (p .array) (r .list) (r .call)) .outcome .after) → P p r)
     → Invariant index Formatted Good P
 unfolding effect step next
 invariant P so =
     record {
       at-start = good-start;
-      kept = λ p good r made may. let k = call-kept p good (r .room) (r .call) may in (so p r k, k .good);
+      kept = λ p good r made may. let k = call-kept p good (r .list) (r .call) may in (so p r k, k .good);
       says = λ p good key c said e. e ∙ get-is-map p good key c;
     }
 
@@ -74,7 +76,7 @@ history-rule a formatted calls v =
 pub never-damage : NeverDamage
 never-damage a formatted calls v =
     each-call index Formatted Good _
-    (invariant (λ p r. saysDamage ((step (p .array) (r .room) (r .call)) .reply) ≡ false) (λ p r k. k .no-damage))
+    (invariant (λ p r. saysDamage ((step (p .array) (r .list) (r .call)) .outcome .reply) ≡ false) (λ p r k. k .no-damage))
     a formatted calls (linked (start a) calls) v
 
 -- Every point that the rule covers is good.

@@ -5,11 +5,12 @@ use mathlib.Core.Path.{_≡_}
 use mathlib.Core.Bool.{Bool, true, false, _||_}
 use mathlib.Core.List.{List, [], _∷_}
 use lib.ListN.{length}
+use Rattle.stores.specs.Written.{atFront}
 use Rattle.rules.specs.declared.Call.the-variants.{Mend, List as ListCall}
 use Rattle.replies.specs.declared.Answer.{Answer}
 use Rattle.rules.specs.Layout.{depth}
 use Rattle.replies.specs.Replies.{Said, done, saidBy, isRefusal}
-use Rattle.rules.specs.Listing.{Listed}
+use Rattle.rules.specs.Listing.{records, wordsOf}
 use Rattle.rules.specs.Step.{step, Performed}
 use Rattle.runs.specs.Run.{Point, start, validRun, EachCall}
 use Rattle.history.specs.History.{Request, index, Formatted, CoveredPoint}
@@ -23,19 +24,19 @@ saysDamage said = isRefusal 1 said || (isRefusal 3 said || isRefusal 4 said)
 abbrev pub NeverDamage : Type 0
 NeverDamage =
     (a : List ℕ) → Formatted a → (calls : List Request) → validRun index (start a) calls ≡ true
-    → EachCall index (λ p r. saysDamage ((step (p .array) (r .room) (r .call)) .reply) ≡ false) (start a) calls
+    → EachCall index (λ p r. saysDamage ((step (p .array) (r .list) (r .call)) .outcome .reply) ≡ false) (start a) calls
 
 -- A mend at any point of a run is done if it may make as many stores as the directory has entries; at most 4,096.
 abbrev pub MendSuffices : Type 0
 MendSuffices =
-    (p : Point) → CoveredPoint p → (allowance room : ℕ) → 2 ^ depth (p .array) ≤ allowance
-    → (step (p .array) room (Mend allowance)) .reply ≡ done []
+    (p : Point) → CoveredPoint p → (allowance : ℕ) (l : List ℕ) → 2 ^ depth (p .array) ≤ allowance
+    → (step (p .array) l (Mend allowance)) .outcome .reply ≡ done []
 
--- A performed list that is done, where the store needs no recovery, has left the map's records, in some order.
+-- A performed list that is done, where the store needs no recovery, has left the records of the array, and they are the map's.
 abbrev pub ListIsMap : Type 0
 ListIsMap =
     (p : Point) → CoveredPoint p → p .needsRecovery ≡ false
     → (l : List ℕ) (answer : Answer) (a′ l′ : List ℕ) (count : ℕ)
     → Performed ListCall (p .array) l answer a′ l′
     → saidBy (answer .reply) ≡ done (count ∷ [])
-    → (listed : Listed (p .array) l l′) × ListsMap (p .map) (listed .order) × (count ≡ length (listed .order))
+    → (l′ ≡ atFront (wordsOf (records (p .array))) l) × ListsMap (p .map) (records (p .array)) × (count ≡ length (records (p .array)))

@@ -8,7 +8,7 @@ use Rattle.rules.specs.declared.Call.{Call}
 use Rattle.rules.specs.declared.Call.the-variants.{Format, Get, Put, Remove, Mend, List as ListCall}
 use Rattle.replies.specs.declared.Answer.{Answer}
 use Rattle.replies.specs.Replies.{Said, done, saidBy}
-use Rattle.rules.specs.Step.{step, Performed}
+use Rattle.rules.specs.Step.{step, outcomeOf, Performed}
 use Rattle.runs.specs.Map.{View, formats, gets, puts, removes, mends, keeps}
 use Rattle.runs.specs.Run.{Machine, Point, start, validRun, Reached, AgreesWithMap, RunsAgree}
 
@@ -23,10 +23,10 @@ viewOf ListCall = keeps
 
 -- ---- Over the definitions
 
--- A call with the number of words in the list array that is lent with it; only a list looks at it.
+-- A call with the list array that is lent with it; only a list looks at it.
 pub record Request : Type 0 where
   pub call : Call
-  pub room : ℕ
+  pub list : List ℕ
 
 -- The index, as document 01 defines its calls. Any call can be made on any array.
 abbrev pub index : Machine
@@ -34,9 +34,9 @@ index =
     record {
       Call = Request;
       Made = λ a r. Unit {0};
-      step = λ a r. step a (r .room) (r .call);
+      step = λ a r. (step a (r .list) (r .call)) .outcome;
       view = λ r. viewOf (r .call);
-      Says = λ a key said. said ≡ (step a 0 (Get key)) .reply;
+      Says = λ a key said. said ≡ (outcomeOf a (Get key)) .reply;
       cutNeedsRecovery = true;
     }
 
@@ -46,8 +46,8 @@ pub record Formatted (a : List ℕ) : Type 0 where
   pub D : ℕ
   pub S : ℕ
   pub allowance : ℕ
-  pub reply : (step before 0 (Format D S allowance)) .reply ≡ done []
-  pub left : a ≡ (step before 0 (Format D S allowance)) .after
+  pub reply : (outcomeOf before (Format D S allowance)) .reply ≡ done []
+  pub left : a ≡ (outcomeOf before (Format D S allowance)) .after
 
 -- The history rule (document 01: also the plain-table rule): from every array that a format has just left with reply done,
 -- every valid run agrees with the map.

@@ -17,7 +17,7 @@ use Rattle.stores.proofs.Stores.{executed-none}
 use Rattle.replies.specs.declared.Refusal.{Refusal}
 use Rattle.replies.specs.declared.Answer.{Answer}
 use Rattle.replies.specs.Replies.{Said, refused, refuse, saidBy, tested, changed}
-use Rattle.index.specs.Answered.{Answered}
+use Rattle.replies.specs.Answered.{Answered}
 
 module _ (allowed : ℕ) (p : Plan Said) (before : List ℕ) (r : Answer) where
   -- The plan's stores were made under the allowance, and the answer tells their number and the plan's reply.

@@ -26,12 +26,12 @@ use Rattle.rules.specs.Get.{getTests, valueAtHit, get}
 use Rattle.rules.specs.Put.{directoryTests, putTests}
 use Rattle.rules.specs.Remove.{removeTests, clearedAt, remove}
 use Rattle.rules.specs.Mend.{mendTests, mending, mend}
-use Rattle.rules.specs.Step.{effect, step}
+use Rattle.rules.specs.Step.{effect, step, outcomeOf}
 use Rattle.directory.specs.declared.scan.Verdict.{Verdict}
 use Rattle.directory.specs.declared.scan.Verdict.the-variants.{Broken as BrokenVerdict, Unmended, Consistent}
 use Rattle.directory.specs.Scans.{verdictOf}
 use Rattle.directory.proofs.Answers.{verdict-unmended, verdict-consistent}
-use Rattle.index.specs.Answered.{Answered}
+use Rattle.replies.specs.Answered.{Answered}
 use Rattle.layout.specs.declared.place.Place.{Place}
 use Rattle.index.proofs.Places.{Stands}
 use Rattle.index.proofs.Answers.{answered-stores, answered-only, answered-refused}
@@ -62,18 +62,18 @@ format-stores D S allowed a n₁ a₁ n₂ a₂ base n₃ a₃ w n₄ a₄ b v e
     (rw b at e₃) (rw v at e₄)))
 
 module _ (a : List ℕ) (D S allowance : ℕ) (r : Answer) where
-  pub format-bad-shape : validShape D S ≡ false → Without r (refused 8) → Answered (step a 0 (Format D S allowance)) r a
+  pub format-bad-shape : validShape D S ≡ false → Without r (refused 8) → Answered (outcomeOf a (Format D S allowance)) r a
   unfolding effect step format formatTests unless
   format-bad-shape e k = answered-refused allowance (formatTests a D S) BadShape _ a r (rw e) (k .0) (k .1)
 
   module _ (v : validShape D S ≡ true) where
-    pub format-too-short : length a < wordsFor D S → Without r (refused 9) → Answered (step a 0 (Format D S allowance)) r a
+    pub format-too-short : length a < wordsFor D S → Without r (refused 9) → Answered (outcomeOf a (Format D S allowance)) r a
     unfolding effect step format formatTests unless
     format-too-short e k =
         answered-refused allowance (formatTests a D S) TooShort _ a r (rw (v, lt-leb (wordsFor D S) (length a) e)) (k .0) (k .1)
 
     pub format-done : wordsFor D S ≤ length a → (due : ℕ) (after : List ℕ) → Executed (formatStores D S) allowance 0 a due after
-        → Told r (done []) allowance due → Answered (step a 0 (Format D S allowance)) r after
+        → Told r (done []) allowance due → Answered (outcomeOf a (Format D S allowance)) r after
     unfolding effect step format formatTests unless tested
     format-done e due after x k =
         rw (v, le-leb (wordsFor D S) (length a) e)
@@ -82,20 +82,20 @@ module _ (a : List ℕ) (D S allowance : ℕ) (r : Answer) where
 -- ---- Get
 
 module _ (a : List ℕ) (key : ℕ) (r : Answer) where
-  get-answer : Without r (get a key) → Answered (step a 0 (Get key)) r a
+  get-answer : Without r (get a key) → Answered (outcomeOf a (Get key)) r a
   unfolding effect step
   get-answer k = record { reply = k .0; stores = k .1; words = refl }
 
-  pub get-refused : (q : Refusal) → getTests a key ≡ some q → Without r (refuse q) → Answered (step a 0 (Get key)) r a
+  pub get-refused : (q : Refusal) → getTests a key ≡ some q → Without r (refuse q) → Answered (outcomeOf a (Get key)) r a
   unfolding get replied
   get-refused q e k = get-answer (rw e k)
 
   module _ (p : Place) (x : Stands p a key (getTests a key)) where
-    pub get-absent : hit a (p .base) (p .key) ≡ none → Without r absent → Answered (step a 0 (Get key)) r a
+    pub get-absent : hit a (p .base) (p .key) ≡ none → Without r absent → Answered (outcomeOf a (Get key)) r a
     unfolding get replied valueAtHit
     get-absent h k = get-answer (rw (x .0, ← x .1, x .2 .base-is, h) k)
 
-    pub get-found : (j : ℕ) → hit a (p .base) (p .key) ≡ some j → Without r (done (word a (p .base + 2 * j + 1) ∷ [])) → Answered (step a 0 (Get key)) r a
+    pub get-found : (j : ℕ) → hit a (p .base) (p .key) ≡ some j → Without r (done (word a (p .base + 2 * j + 1) ∷ [])) → Answered (outcomeOf a (Get key)) r a
     unfolding get replied valueAtHit
     get-found j h k =
         let at : p .base + 2 * j + 1 ≡ valueAddress (p .base) j = omega arith in
@@ -104,18 +104,18 @@ module _ (a : List ℕ) (key : ℕ) (r : Answer) where
 -- ---- Remove, whose tests are those of put
 
 module _ (a : List ℕ) (key allowance : ℕ) (r : Answer) where
-  pub remove-refused : (q : Refusal) → putTests a key ≡ some q → Without r (refuse q) → Answered (step a 0 (Remove key allowance)) r a
+  pub remove-refused : (q : Refusal) → putTests a key ≡ some q → Without r (refuse q) → Answered (outcomeOf a (Remove key allowance)) r a
   unfolding effect step remove removeTests putTests
   remove-refused q e k = answered-refused allowance (removeTests a key) q _ a r e (k .0) (k .1)
 
   module _ (p : Place) (x : Stands p a key (putTests a key)) where
-    pub remove-absent : hit a (p .base) (p .key) ≡ none → Without r absent → Answered (step a 0 (Remove key allowance)) r a
+    pub remove-absent : hit a (p .base) (p .key) ≡ none → Without r absent → Answered (outcomeOf a (Remove key allowance)) r a
     unfolding effect step remove removeTests putTests tested clearedAt
     remove-absent h k = rw (x .0, ← x .1, x .2 .base-is, h) (answered-only allowance absent a r (k .0) (k .1))
 
     pub remove-done : (j : ℕ) → hit a (p .base) (p .key) ≡ some j → (due : ℕ) (after : List ℕ)
         → Executed (store (p .base + 2 * j) 0 ∷ []) allowance 0 a due after → Told r (done []) allowance due
-        → Answered (step a 0 (Remove key allowance)) r after
+        → Answered (outcomeOf a (Remove key allowance)) r after
     unfolding effect step remove removeTests putTests tested clearedAt
     remove-done j h due after e k =
         rw (x .0, ← x .1, x .2 .base-is, h)
@@ -131,17 +131,17 @@ verdict-valid a Unmended e n = verdict-unmended a Unmended e refl .0
 verdict-valid a Consistent e n = verdict-consistent a Consistent e refl .0
 
 module _ (a : List ℕ) (allowance : ℕ) (r : Answer) where
-  pub mend-no-store : validHeader a ≡ false → Without r (refused 1) → Answered (step a 0 (Mend allowance)) r a
+  pub mend-no-store : validHeader a ≡ false → Without r (refused 1) → Answered (outcomeOf a (Mend allowance)) r a
   unfolding effect step mend mendTests unless
   mend-no-store e k = answered-refused allowance (mendTests a) NoStore _ a r (rw e) (k .0) (k .1)
 
   module _ (v : validHeader a ≡ true) where
-    pub mend-broken : leadersValid a (depth a) (segments a) ≡ false → Without r (refused 3) → Answered (step a 0 (Mend allowance)) r a
+    pub mend-broken : leadersValid a (depth a) (segments a) ≡ false → Without r (refused 3) → Answered (outcomeOf a (Mend allowance)) r a
     unfolding effect step mend mendTests unless
     mend-broken e k = answered-refused allowance (mendTests a) Broken _ a r (rw (v, e)) (k .0) (k .1)
 
     pub mend-done : leadersValid a (depth a) (segments a) ≡ true → (due : ℕ) (after : List ℕ)
-        → Executed (mending a) allowance 0 a due after → Told r (done []) allowance due → Answered (step a 0 (Mend allowance)) r after
+        → Executed (mending a) allowance 0 a due after → Told r (done []) allowance due → Answered (outcomeOf a (Mend allowance)) r after
     unfolding effect step mend mendTests unless tested
     mend-done e due after x k =
         rw (v, e) (answered-stores allowance (record { due = mending a; reply = done [] }) a r due after x k)

@@ -2,35 +2,35 @@
 -- Assumes nothing.
 use mathlib.Core.Path.{_≡_, refl, ap, _∙_}
 use mathlib.Core.Bool.{true, false}
-use mathlib.Core.List.{List, [], _∷_, _++_, Permᴰ·refl}
+use mathlib.Core.List.{List, [], _∷_, _++_}
 use mathlib.Core.Option.{none, some}
 use mathlib.Core.Logic.{⊎-elim}
 use Prim.Native.Nat.{ℕ, zero, suc, _+_, _-_, _*_, _%_, _^_, _≤_, _<_}
-use native.Mathlib.Nat.{zero-add, le-of-suc-le-suc, eq-or-lt-of-le}
+use native.Mathlib.Nat.{le-of-suc-le-suc, eq-or-lt-of-le}
 use native.Mathlib.Omega.{arith}
 use borrow.Author.Tests.{eq-eqb, ne-eqb, le-leb, lt-leb}
 use lib.Dec.{eqb}
-use lib.ListN.{length, drop, length-append}
+use lib.ListN.{length, length-append}
 use Rattle.stores.specs.Lists.{pick, each}
 use Rattle.stores.specs.Store.{word}
 use Rattle.stores.proofs.Lists.{each-suc, each-zero}
 use Rattle.replies.specs.declared.Refusal.{Refusal}
 use Rattle.replies.specs.declared.Refusal.the-variants.{NoStore, Broken, Unmended, ShortList}
 use Rattle.replies.specs.declared.Answer.{Answer}
-use Rattle.rules.specs.declared.Call.the-variants.{List as ListCall}
 use Rattle.rules.specs.Layout.{validHeader, depth, segments, entryAt, segmentOf, localDepth}
 use Rattle.rules.specs.Keys.{width}
 use Rattle.rules.specs.Scan.{leader, leadersValid, entriesAgree}
-use Rattle.replies.specs.Replies.{done, refuse, unless, replied}
+use Rattle.replies.specs.Replies.{done, refuse, unless}
+use Rattle.replies.specs.Writing.{behindTests}
+use Rattle.replies.specs.Answered.{Wrote}
 use Rattle.rules.specs.Put.{directoryTests}
 use Rattle.rules.specs.Listing.{Record, liveRecord, blockRecords, records, wordsOf, listTests, list}
-use Rattle.rules.specs.Step.{effect, step, Performed}
 use Rattle.rules.proofs.Keys.{width-pos}
 use Rattle.rules.proofs.Scan.{led, next-leads, leader-fits, valid-at-depth, valid-at-segment, valid-at-aligned, each-one}
 use Rattle.stores.specs.Written.{Written}
-use Rattle.stores.proofs.Written.{written-append}
+use Rattle.stores.proofs.Written.{written-append, written-at-front}
 use Rattle.segment.specs.Listing.{liveRecords}
-use Rattle.segment.proofs.Records.{words-append}
+use Rattle.rules.proofs.Listing.{words-append}
 use Rattle.layout.specs.declared.header.Header.{Header}
 use Rattle.layout.specs.Headers.{Describes}
 use Rattle.layout.proofs.Shapes.{bounds}
@@ -209,22 +209,12 @@ module _ (a : List ℕ) (room : ℕ) where
         list-passed k = rw (v, l, e, le-leb (2 * length (records a)) room k)
 
 module _ (a l : List ℕ) (r : Answer) where
-  pub list-refused : (q : Refusal) → listTests a (length l) ≡ some q → Without r (refuse q) → Performed ListCall a l r a l
-  unfolding effect step list replied
-  list-refused q e k = record { reply = rw e (k .0); stores = k .1; words = refl; listed = rw e refl }
+  pub list-refused : (q : Refusal) → listTests a (length l) ≡ some q → Without r (refuse q) → Wrote (list a (length l)) r l l
+  unfolding list behindTests
+  list-refused q e k = rw e (record { reply = k .0; stores = k .1; left = refl })
 
   pub list-done : listTests a (length l) ≡ none → Without r (done (length (records a) ∷ [])) → (n : ℕ) (l′ : List ℕ)
-      → Written (wordsOf (records a)) 0 l n l′ → Performed ListCall a l r a l′
-  unfolding effect step list replied
+      → Written (wordsOf (records a)) 0 l n l′ → Wrote (list a (length l)) r l l′
+  unfolding list behindTests
   list-done e k n l′ w =
-      record {
-        reply = rw e (k .0);
-        stores = k .1;
-        words = refl;
-        listed = rw e
-            (record {
-              order = records a;
-              same = Permᴰ·refl (records a);
-              words = w .list ∙ ap (λ (i : ℕ). wordsOf (records a) ++ drop i l) (zero-add (length (wordsOf (records a))));
-            });
-      }
+      rw e (record { reply = k .0; stores = k .1; left = written-at-front (wordsOf (records a)) l n l′ w })

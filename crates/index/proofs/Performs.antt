@@ -1,31 +1,38 @@
 -- From a call's own promise to that of the performed call.
 -- Assumes nothing.
-use mathlib.Core.Path.{_≡_, refl, ap, _∙_}
+use mathlib.Core.Path.{_≡_, refl, sym}
 use mathlib.Core.Bool.{false}
 use Prim.Native.Nat.{ℕ}
-use mathlib.Core.List.{List}
+use mathlib.Core.List.{List, []}
 use lib.ListN.{length}
-use Rattle.stores.specs.Plan.{Outcome}
 use Rattle.replies.specs.declared.Answer.{Answer}
-use Rattle.replies.specs.Replies.{Said}
+use Rattle.replies.specs.Answered.{Answered, Wrote}
 use Rattle.rules.specs.declared.Call.{Call}
-use Rattle.rules.specs.Step.{step, lists, Performed}
-use Rattle.rules.proofs.Local.{step-room}
-use Rattle.index.specs.Answered.{Answered}
+use Rattle.rules.specs.declared.Call.the-variants.{List as ListCall}
+use Rattle.rules.specs.Listing.{list}
+use Rattle.rules.specs.Step.{effect, lists, step, outcomeOf, Performed}
+use Rattle.rules.proofs.Listing.{step-apart, list-array-kept}
 
-module _ (a l : List ℕ) (r : Answer) (b : List ℕ) where
+module _ (a l : List ℕ) (r : Answer) where
   -- What `format`, `get`, `put`, `remove` and `mend` promise is a performed call, with any list array: they do not look at it, and
-  -- leave it. (`list` promises a performed call as it stands.)
-  pub answered-performed : (call : Call) → lists call ≡ false → Answered (step a 0 call) r b → Performed call a l r b l
-  answered-performed call q k =
-      let same = step-room a 0 (length l) call q in
+  -- leave it.
+  pub answered-performed : (b : List ℕ) (call : Call) → lists call ≡ false → Answered (outcomeOf a call) r b → Performed call a l r b l
+  answered-performed b call q k =
       record {
-        reply = k .reply ∙ ap (λ (o : Outcome Said). o .reply) same;
-        stores = k .stores ∙ ap (λ (o : Outcome Said). o .made) same;
-        words = k .words ∙ ap (λ (o : Outcome Said). o .after) same;
-        listed = rw q refl;
+        answered = rw (step-apart a l [] call q) k;
+        list = sym (list-array-kept a l call q);
+      }
+
+  -- What `list` promises is one too.
+  pub wrote-performed : (l′ : List ℕ) → Wrote (list a (length l)) r l l′ → Performed ListCall a l r a l′
+  unfolding step effect
+  wrote-performed l′ k =
+      record {
+        answered = record { reply = k .reply; stores = k .stores; words = refl };
+        list = k .left;
       }
 
   -- The call that was given is the one that was answered.
-  pub performed : {given call : Call} → given ≡ call → lists call ≡ false → Answered (step a 0 call) r b → Performed given a l r b l
-  performed {given} {call} e q k = rw e (answered-performed call q k)
+  pub performed : (b : List ℕ) {given call : Call} → given ≡ call → lists call ≡ false → Answered (outcomeOf a call) r b
+      → Performed given a l r b l
+  performed b {given} {call} e q k = rw e (answered-performed b call q k)

@@ -26,7 +26,7 @@ use Rattle.replies.specs.Replies.{Said, refuse, saidBy, changed}
 use Rattle.rules.specs.Get.{keyEntry, keySegment}
 use Rattle.rules.specs.Split.{splitting}
 use Rattle.rules.specs.Put.{putTests, keyChoice, unused, put}
-use Rattle.rules.specs.Step.{effect, step}
+use Rattle.rules.specs.Step.{effect, step, outcomeOf}
 use Rattle.rules.proofs.Split.{Splittable, unused-falls}
 use Rattle.rules.proofs.Keys.{window-lt}
 use Rattle.rules.proofs.Range.{hit-slot}
@@ -38,7 +38,7 @@ use Rattle.structure.specs.Splits.{SplitBy}
 use Rattle.segment.specs.declared.choice.Choice.{Choice}
 use Rattle.segment.specs.declared.choice.Choice.the-variants.{Found, Into, Full}
 use Rattle.segment.specs.Answers.{choiceOf}
-use Rattle.index.specs.Answered.{Answered}
+use Rattle.replies.specs.Answered.{Answered}
 use Rattle.index.specs.Slots.{valuePut, recordPut}
 use Rattle.index.proofs.Answers.{answered-only}
 use Rattle.index.proofs.Places.{Stands}
@@ -118,19 +118,19 @@ module _ {p : Place} {a : List ℕ} {key : ℕ} (k : Stands p a key (putTests a 
 
   module _ (value allowance : ℕ) (r : Answer) (after : List ℕ) where
     pub answers-found : {j : ℕ} → x ≡ Found j → Answered (changed allowance (valuePut p value j) a) r after
-        → Answered (step a 0 (Put key value allowance)) r after
+        → Answered (outcomeOf a (Put key value allowance)) r after
     unfolding effect step
     answers-found {j} q m = rw (put-found a key value (k .0) j (choice-found-read q), base-is) m
 
     pub answers-into : {j : ℕ} → x ≡ Into j → Answered (changed allowance (recordPut p value j) a) r after
-        → Answered (step a 0 (Put key value allowance)) r after
+        → Answered (outcomeOf a (Put key value allowance)) r after
     unfolding effect step
     answers-into {j} q m = rw (put-into a key value (k .0) j (choice-into-read q), base-is, ← k .1) m
 
 -- ---- Refusals
 
 pub answers-refused : (a : List ℕ) (key value allowance : ℕ) (q : Refusal) (r : Answer) → putTests a key ≡ some q
-    → (r .reply ≡ RefusedReply q) × (r .stores ≡ 0) → Answered (step a 0 (Put key value allowance)) r a
+    → (r .reply ≡ RefusedReply q) × (r .stores ≡ 0) → Answered (outcomeOf a (Put key value allowance)) r a
 unfolding effect step
 answers-refused a key value allowance q r t e =
     rw (put-refused a key value q t) (answered-only allowance (refuse q) a r (ap saidBy (e .0)) (e .1))
@@ -142,7 +142,7 @@ module _ {p : Place} {a : List ℕ} {key : ℕ} (k : Stands p a key (putTests a 
   -- What the split has answered, and left as b.
   module _ (allowance : ℕ) (x : SplitAnswer) (b : List ℕ) (s : SplitBy x p allowance a b) where
     pub answers-too-deep : x ≡ SplitTooDeep → (value : ℕ) (r : Answer) → (r .reply ≡ RefusedReply TooDeep) × (r .stores ≡ 0)
-        → Answered (step a 0 (Put key value allowance)) r b
+        → Answered (outcomeOf a (Put key value allowance)) r b
     unfolding effect step
     answers-too-deep q value r e =
         let t = rw q at s in
@@ -154,7 +154,7 @@ module _ {p : Place} {a : List ℕ} {key : ℕ} (k : Stands p a key (putTests a 
     room l = rw (depth-is, k .2 .header-read .max-depth-read) l
 
     pub answers-no-segment : x ≡ SplitNoSegment → (value : ℕ) (r : Answer) → (r .reply ≡ RefusedReply NoSegment) × (r .stores ≡ 0)
-        → Answered (step a 0 (Put key value allowance)) r b
+        → Answered (outcomeOf a (Put key value allowance)) r b
     unfolding effect step
     answers-no-segment q value r e =
         let t = rw q at s in
@@ -182,7 +182,7 @@ module _ {p : Place} {key allowance due : ℕ} {a b : List ℕ} (m : SplitOf p k
   due-length : due ≡ length (splitting a key (m .new))
   due-length = m .made .count ∙ zero-add (length (splitting a key (m .new)))
 
-  pub answers-cut : allowance < due → Answered (step a 0 (Put key value allowance)) (record { reply = RefusedReply CutOff; stores = allowance }) b
+  pub answers-cut : allowance < due → Answered (outcomeOf a (Put key value allowance)) (record { reply = RefusedReply CutOff; stores = allowance }) b
   unfolding effect step
   answers-cut l =
       rw (plan, changed-then-cut allowance (splitting a key (m .new)) (put (apply (splitting a key (m .new)) a) key value) a (rw due-length at l))
@@ -201,12 +201,12 @@ module _ {p : Place} {key allowance due : ℕ} {a b : List ℕ} (m : SplitOf p k
         let behind : unused b key ≡ u = rw split-whole (unused-falls a key (m .new) can u here) in
         omega arith
 
-    module _ {rest : Answer} {after : List ℕ} (again : Answered (step b 0 (Put key value (allowance - due))) rest after) where
+    module _ {rest : Answer} {after : List ℕ} (again : Answered (outcomeOf b (Put key value (allowance - due))) rest after) where
       pub rest-allowed : rest .stores ≤ allowance - due
       unfolding effect step changed
       rest-allowed = rw (again .stores) (made-allowed (refuse CutOff) (allowance - due) (put b key value) b)
 
-      pub answers-again : Answered (step a 0 (Put key value allowance)) (record { reply = rest .reply; stores = due + rest .stores }) after
+      pub answers-again : Answered (outcomeOf a (Put key value allowance)) (record { reply = rest .reply; stores = due + rest .stores }) after
       unfolding effect step
       answers-again =
           let o = rw (split-whole, due-length) at again in

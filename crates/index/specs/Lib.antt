@@ -1,4 +1,3 @@
--- What the calls promise.
-pub mod Answered
+-- What the calls promise of a block and of a slot.
 pub mod Blocks
 pub mod Slots

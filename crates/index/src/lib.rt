@@ -34,13 +34,15 @@ use slot::put_value;
 use stores::store_word;
 use structure::split::SplitAnswer;
 use structure::split::split;
-ghost use Rattle.rules.specs.declared.Call.the-variants.{Format, Get, Put, Remove, Mend, List as ListCall};
-ghost use Rattle.rules.specs.Step.{step, Performed};
-ghost use Rattle.index.specs.Answered.{Answered};
+ghost use lib.ListN.{length};
+ghost use Rattle.replies.specs.Answered.{Answered, Wrote};
+ghost use Rattle.rules.specs.declared.Call.the-variants.{Format, Get, Put, Remove, Mend};
+ghost use Rattle.rules.specs.Listing.{list as listing};
+ghost use Rattle.rules.specs.Step.{outcomeOf, Performed};
 
 // Format: an empty index of largest depth `depth` (document 01: D) with `segments` segments (S).
 pub fn format(words: &mut [u64], depth: u64, segments: u64, allowance: u32) -> Answer
-    ensures { λ r. ⌜ Answered (step (now (words .entry)) 0 (Format depth segments allowance)) r (now (words .exit)) ⌝ }
+    ensures { λ r. ⌜ Answered (outcomeOf (now (words .entry)) (Format depth segments allowance)) r (now (words .exit)) ⌝ }
 {
     if !valid_shape(depth, segments) {
         return without_store(Reply::Refused(Refusal::BadShape));
@@ -54,7 +56,7 @@ pub fn format(words: &mut [u64], depth: u64, segments: u64, allowance: u32) -> A
 
 // Get: the value of the key, or absent. It reads word 0, the key's entry and the probe window alone.
 pub fn get(words: &[u64], key: u64) -> Answer
-    ensures { λ r. ⌜ Answered (step (now (words .entry)) 0 (Get key)) r (now (words .entry)) ⌝ }
+    ensures { λ r. ⌜ Answered (outcomeOf (now (words .entry)) (Get key)) r (now (words .entry)) ⌝ }
 {
     let place = match place_to_read(words, key) {
         Placed::At(place) => place,
@@ -70,7 +72,7 @@ pub fn get(words: &[u64], key: u64) -> Answer
 // Put: the value at the first hit; else value and key into a usable slot; else a split, and the put
 // begins again with the allowance that is left. The depth still unused falls by one each time.
 pub fn put(words: &mut [u64], key: u64, value: u64, allowance: u32) -> Answer
-    ensures { λ r. ⌜ Answered (step (now (words .entry)) 0 (Put key value allowance)) r (now (words .exit)) ⌝ }
+    ensures { λ r. ⌜ Answered (outcomeOf (now (words .entry)) (Put key value allowance)) r (now (words .exit)) ⌝ }
 {
     let place = match place_to_change(words, key) {
         Placed::At(place) => place,
@@ -102,7 +104,7 @@ pub fn put(words: &mut [u64], key: u64, value: u64, allowance: u32) -> Answer
 // Remove: the key word at the first hit is cleared; or the key is absent. The hit is found as a put
 // finds it.
 pub fn remove(words: &mut [u64], key: u64, allowance: u32) -> Answer
-    ensures { λ r. ⌜ Answered (step (now (words .entry)) 0 (Remove key allowance)) r (now (words .exit)) ⌝ }
+    ensures { λ r. ⌜ Answered (outcomeOf (now (words .entry)) (Remove key allowance)) r (now (words .exit)) ⌝ }
 {
     let place = match place_to_change(words, key) {
         Placed::At(place) => place,
@@ -118,7 +120,7 @@ pub fn remove(words: &mut [u64], key: u64, allowance: u32) -> Answer
 
 // Mend: each entry that differs from its block's leader gets the leader's word, from left to right.
 pub fn mend(words: &mut [u64], allowance: u32) -> Answer
-    ensures { λ r. ⌜ Answered (step (now (words .entry)) 0 (Mend allowance)) r (now (words .exit)) ⌝ }
+    ensures { λ r. ⌜ Answered (outcomeOf (now (words .entry)) (Mend allowance)) r (now (words .exit)) ⌝ }
 {
     let HeaderRead::Valid(header) = read_header(words) else {
         return without_store(Reply::Refused(Refusal::NoStore));
@@ -131,10 +133,10 @@ pub fn mend(words: &mut [u64], allowance: u32) -> Answer
 }
 
 // List: every live record into the list array, each as key, then value; words behind them stay. The
-// order of the records is this program's choice: what is written is some rearrangement of document
-// 01's records, and every choice holds the same records.
+// records come block by block from the left of the directory, and by rising slot number within a
+// segment.
 pub fn list(words: &[u64], list: &mut [u64]) -> Answer
-    ensures { λ r. ⌜ Performed ListCall (now (words .entry)) (now (list .entry)) r (now (words .entry)) (now (list .exit)) ⌝ }
+    ensures { λ r. ⌜ Wrote (listing (now (words .entry)) (length (now (list .entry)))) r (now (list .entry)) (now (list .exit)) ⌝ }
 {
     let HeaderRead::Valid(header) = read_header(words) else {
         return without_store(Reply::Refused(Refusal::NoStore));

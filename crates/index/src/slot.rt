@@ -18,7 +18,7 @@ ghost use Rattle.rules.specs.Put.{keyChoice};
 ghost use Rattle.replies.specs.Replies.{changed};
 ghost use Rattle.layout.specs.Places.{KeyPlace};
 ghost use Rattle.segment.specs.Answers.{hitOf, choiceOf};
-ghost use Rattle.index.specs.Answered.{Answered};
+ghost use Rattle.replies.specs.Answered.{Answered};
 ghost use Rattle.index.specs.Slots.{valuePut, recordPut};
 
 // The first slot of the key's probe window that holds the key, in the segment at `base`.

@@ -210,7 +210,7 @@ fn compare_list(arrays: &mut Arrays, room: usize) -> Outcome {
     if outcome.reply == DONE {
         due = records(&arrays[MODEL], length);
     }
-    let is_listed = is_list_of(&list, &mut due);
+    let is_listed = is_list_of(&list, &due);
     judge(arrays, Call::List(room), answer, outcome, is_listed)
 }
 

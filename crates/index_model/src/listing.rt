@@ -1,4 +1,5 @@
-// The records of a list, collected in a row.
+// The records of a list, collected in a row in document 02's order (wish 3): block by block from the left
+// of the directory, and by rising slot number within a segment.
 use crate::DONE;
 use crate::NO_STORE;
 use crate::SHORT_LIST;
@@ -17,7 +18,7 @@ use model_array::words::CELLS;
 use model_array::words::Cells;
 use model_array::words::append;
 
-// Puts the records of a block that are live, key then value, behind those of the row.
+// Puts the records of a block that are live, key then value, behind those of the row, slots rising.
 fn collect_block(words: &Cells, block: Block, row: &mut Cells) {
     for slot in 0..SLOTS {
         let key = key_in(words, block, slot);
@@ -28,8 +29,8 @@ fn collect_block(words: &Cells, block: Block, row: &mut Cells) {
     }
 }
 
-// Collects the live records of each block of a tidy directory. There an index leads its block if that
-// starts at it.
+// Collects the live records of each block of a tidy directory, from the left. There an index leads its
+// block if that starts at it.
 fn collect_all(words: &Cells, shape: Shape, row: &mut Cells) {
     let count = power(shape.depth);
     for index in 0..count {
@@ -40,7 +41,7 @@ fn collect_all(words: &Cells, shape: Shape, row: &mut Cells) {
     }
 }
 
-// The records of an index whose directory is tidy, key then value, as a row.
+// The records of an index whose directory is tidy, key then value, as a row in the order of a list.
 pub fn records(words: &Cells, length: usize) -> Cells {
     let mut row = [0u64; CELLS];
     collect_all(words, shape_of(words, length), &mut row);

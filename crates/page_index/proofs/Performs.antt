@@ -4,7 +4,7 @@
 use Prim.Native.Nat.{ℕ}
 use mathlib.Core.Path.{_≡_, refl, sym}
 use mathlib.Core.Bool.{Bool, false}
-use mathlib.Core.List.{List}
+use mathlib.Core.List.{List, []}
 use mathlib.Core.Option.{none}
 use lib.ListN.{length}
 use Rattle.stores.specs.Plan.{Outcome}
@@ -12,13 +12,14 @@ use Rattle.replies.specs.declared.Answer.{Answer}
 use Rattle.rules.specs.declared.Call.{Call}
 use Rattle.rules.specs.declared.Call.the-variants.{List as ListCall}
 use Rattle.replies.specs.Replies.{Said, saidBy}
-use Rattle.rules.specs.Step.{step, lists, Performed}
+use Rattle.rules.specs.Listing.{list}
+use Rattle.rules.specs.Step.{effect, lists, step, outcomeOf, Performed}
 use Rattle.replies.proofs.Sayable.{Sayable}
 use Rattle.rules.proofs.Said.{step-sayable}
-use Rattle.index.proofs.Performs.{answered-performed}
+use Rattle.index.proofs.Performs.{answered-performed, wrote-performed}
 use Rattle.board.specs.Jobs.{jobKey, jobTests, behind, onJob}
 use Rattle.page_index.specs.declared.PageIndexReply.{PageIndexReply}
-use Rattle.page_index.specs.Told.{Tells, Told, ToldList}
+use Rattle.page_index.specs.Told.{Tells, Told, ToldWriting}
 use Rattle.page_index.proofs.Tellings.{tells-same}
 
 -- A call was performed, and its answer told in the three numbers of r.
@@ -37,23 +38,26 @@ answer-tells o s r k = tells-same k (sym (s .says)) refl
 
 module _ (a l : List ℕ) (r : PageIndexReply) where
   -- What `page_index_format`, `_get`, `_put`, `_remove` and `_mend` promise, with any list array.
-  pub told-performed : (call : Call) → lists call ≡ false → (a′ : List ℕ) → Told (step a 0 call) r a′ → ToldPerformed call a l r a′ l
+  pub told-performed : (call : Call) → lists call ≡ false → (a′ : List ℕ) → Told (outcomeOf a call) r a′ → ToldPerformed call a l r a′ l
   told-performed call q a′ t =
-      let s = step-sayable a 0 call in
+      let s = step-sayable a [] call in
+      let answer = answer-of (outcomeOf a call) s in
       record {
-        answer = answer-of (step a 0 call) s;
-        performed = answered-performed a l (answer-of (step a 0 call) s) a′ call q (record { reply = s .says; stores = refl; words = t .words });
-        tells = answer-tells (step a 0 call) s r (t .answer);
+        answer = answer;
+        performed = answered-performed a l answer a′ call q (record { reply = s .says; stores = refl; words = t .words });
+        tells = answer-tells (outcomeOf a call) s r (t .answer);
       }
 
   -- What `page_index_list` promises.
-  pub list-told-performed : (l′ : List ℕ) → ToldList a l r l′ → ToldPerformed ListCall a l r a l′
+  pub list-told-performed : (l′ : List ℕ) → ToldWriting (list a (length l)) r l l′ → ToldPerformed ListCall a l r a l′
+  unfolding step effect
   list-told-performed l′ t =
-      let s = step-sayable a (length l) ListCall in
+      let s = step-sayable a l ListCall in
+      let answer = answer-of ((step a l ListCall) .outcome) s in
       record {
-        answer = answer-of (step a (length l) ListCall) s;
-        performed = record { reply = s .says; stores = refl; words = t .told .words; listed = t .listed };
-        tells = answer-tells (step a (length l) ListCall) s r (t .told .answer);
+        answer = answer;
+        performed = wrote-performed a l answer l′ (record { reply = s .says; stores = refl; left = t .left });
+        tells = answer-tells ((step a l ListCall) .outcome) s r (t .told);
       }
 
   -- What `month_board_set`, `_read` and `_remove` promise, where the board's tests pass: the index's call on the job's key.

@@ -5,13 +5,11 @@ use mathlib.Core.Path.{_≡_, ap, _∙_}
 use mathlib.Core.List.{List}
 use Rattle.stores.specs.Plan.{Outcome}
 use Rattle.replies.specs.declared.Answer.{Answer}
-use Rattle.rules.specs.declared.Call.the-variants.{List as ListCall}
 use Rattle.replies.specs.Replies.{Said, saidBy}
-use Rattle.rules.specs.Step.{Performed}
-use Rattle.index.specs.Answered.{Answered}
-use Rattle.board.specs.Print.{Printing, Printed}
+use Rattle.replies.specs.Writing.{Writing}
+use Rattle.replies.specs.Answered.{Answered, Wrote}
 use Rattle.page_index.specs.declared.PageIndexReply.{PageIndexReply}
-use Rattle.page_index.specs.Told.{Tells, Told, ToldList, ToldPrint, codeOf, valueOf}
+use Rattle.page_index.specs.Told.{Tells, Told, ToldWriting, codeOf, valueOf}
 
 -- An answer that says the same says so in numbers too.
 pub tells-same : {s t : Said} {m n : ℕ} {r : PageIndexReply} → Tells s m r → s ≡ t → m ≡ n → Tells t n r
@@ -21,12 +19,5 @@ module _ {answer : Answer} {r : PageIndexReply} (k : Tells (saidBy (answer .repl
   pub told-answered : {o : Outcome Said} {after : List ℕ} → Answered o answer after → Told o r after
   told-answered h = record { answer = tells-same k (h .reply) (h .stores); words = h .words }
 
-  pub told-listed : {a l l′ : List ℕ} → Performed ListCall a l answer a l′ → ToldList a l r l′
-  told-listed h =
-      record {
-        told = record { answer = tells-same k (h .reply) (h .stores); words = h .words };
-        listed = h .listed;
-      }
-
-  pub told-printed : {p : Printing} {before after : List ℕ} → Printed p answer before after → ToldPrint p r before after
-  told-printed h = record { told = tells-same k (h .reply) (h .stores); bytes = h .bytes }
+  pub told-wrote : {w : Writing} {before after : List ℕ} → Wrote w answer before after → ToldWriting w r before after
+  told-wrote h = record { told = tells-same k (h .reply) (h .stores); left = h .left }

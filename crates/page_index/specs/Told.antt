@@ -2,13 +2,11 @@
 -- Assumes nothing.
 use Prim.Native.Nat.{ℕ}
 use mathlib.Core.Path.{_≡_}
-use mathlib.Core.List.{List, [], _∷_, _++_}
-use lib.ListN.{length, drop}
+use mathlib.Core.List.{List, [], _∷_}
 use Rattle.stores.specs.Plan.{Outcome}
-use Rattle.rules.specs.declared.Call.the-variants.{List as ListCall}
+use Rattle.stores.specs.Written.{atFront}
 use Rattle.replies.specs.Replies.{Said, done, absent, refused}
-use Rattle.rules.specs.Step.{step, ListLeft}
-use Rattle.board.specs.Print.{Printing}
+use Rattle.replies.specs.Writing.{Writing}
 use Rattle.page_index.specs.declared.PageIndexReply.{PageIndexReply}
 
 -- The code of a reply: 0 for done, document 01's number of a refusal, and 255, which is our choice, for absent.
@@ -35,12 +33,7 @@ pub record Told (o : Outcome Said) (r : PageIndexReply) (after : List ℕ) : Typ
   pub answer : Tells (o .reply) (o .made) r
   pub words : after ≡ o .after
 
--- A list of the array a has told its outcome, and has left l′ in the list array l.
-pub record ToldList (a l : List ℕ) (r : PageIndexReply) (l′ : List ℕ) : Type 0 where
-  pub told : Told (step a (length l) ListCall) r a
-  pub listed : ListLeft ListCall ((step a (length l) ListCall) .reply) a l l′
-
--- A print has told what it says, with no store, and has left in the buffer its lines and behind them what stood there.
-pub record ToldPrint (p : Printing) (r : PageIndexReply) (before after : List ℕ) : Type 0 where
-  pub told : Tells (p .reply) 0 r
-  pub bytes : after ≡ p .lines ++ drop (length (p .lines)) before
+-- A list or a print has told what it says, with no store; the array lent to it has its words in front, and behind them what stood there.
+pub record ToldWriting (w : Writing) (r : PageIndexReply) (before after : List ℕ) : Type 0 where
+  pub told : Tells (w .reply) 0 r
+  pub left : after ≡ atFront (w .words) before

@@ -5,10 +5,12 @@ mod month_board;
 use replies::Answer;
 use replies::Reply;
 use replies::refusal_number;
+ghost use lib.ListN.{length};
 ghost use Rattle.rules.specs.declared.Call.the-variants.{Format, Get, Put, Remove, Mend};
 ghost use Rattle.replies.specs.Replies.{saidBy};
-ghost use Rattle.rules.specs.Step.{step};
-ghost use Rattle.page_index.specs.Told.{Tells, Told, ToldList};
+ghost use Rattle.rules.specs.Listing.{list as listing};
+ghost use Rattle.rules.specs.Step.{outcomeOf};
+ghost use Rattle.page_index.specs.Told.{Tells, Told, ToldWriting};
 
 // The code of the reply absent; done is 0, a refusal has its number.
 const ABSENT: u32 = 255;
@@ -59,7 +61,7 @@ pub extern "C" fn page_index_format(
     segments: u64,
     allowance: u32,
 ) -> PageIndexReply
-    ensures { λ r. ⌜ Told (step (now (words .entry)) 0 (Format depth segments allowance)) r (now (words .exit)) ⌝ }
+    ensures { λ r. ⌜ Told (outcomeOf (now (words .entry)) (Format depth segments allowance)) r (now (words .exit)) ⌝ }
 {
     told(index::format(words, depth, segments, allowance))
 }
@@ -67,7 +69,7 @@ pub extern "C" fn page_index_format(
 // Get.
 #[no_mangle]
 pub extern "C" fn page_index_get(words: &[u64], key: u64) -> PageIndexReply
-    ensures { λ r. ⌜ Told (step (now (words .entry)) 0 (Get key)) r (now (words .entry)) ⌝ }
+    ensures { λ r. ⌜ Told (outcomeOf (now (words .entry)) (Get key)) r (now (words .entry)) ⌝ }
 {
     told(index::get(words, key))
 }
@@ -80,7 +82,7 @@ pub extern "C" fn page_index_put(
     value: u64,
     allowance: u32,
 ) -> PageIndexReply
-    ensures { λ r. ⌜ Told (step (now (words .entry)) 0 (Put key value allowance)) r (now (words .exit)) ⌝ }
+    ensures { λ r. ⌜ Told (outcomeOf (now (words .entry)) (Put key value allowance)) r (now (words .exit)) ⌝ }
 {
     told(index::put(words, key, value, allowance))
 }
@@ -88,7 +90,7 @@ pub extern "C" fn page_index_put(
 // Remove.
 #[no_mangle]
 pub extern "C" fn page_index_remove(words: &mut [u64], key: u64, allowance: u32) -> PageIndexReply
-    ensures { λ r. ⌜ Told (step (now (words .entry)) 0 (Remove key allowance)) r (now (words .exit)) ⌝ }
+    ensures { λ r. ⌜ Told (outcomeOf (now (words .entry)) (Remove key allowance)) r (now (words .exit)) ⌝ }
 {
     told(index::remove(words, key, allowance))
 }
@@ -96,15 +98,15 @@ pub extern "C" fn page_index_remove(words: &mut [u64], key: u64, allowance: u32)
 // Mend.
 #[no_mangle]
 pub extern "C" fn page_index_mend(words: &mut [u64], allowance: u32) -> PageIndexReply
-    ensures { λ r. ⌜ Told (step (now (words .entry)) 0 (Mend allowance)) r (now (words .exit)) ⌝ }
+    ensures { λ r. ⌜ Told (outcomeOf (now (words .entry)) (Mend allowance)) r (now (words .exit)) ⌝ }
 {
     told(index::mend(words, allowance))
 }
 
-// List. The order of the records in the list array is the program's choice.
+// List.
 #[no_mangle]
 pub extern "C" fn page_index_list(words: &[u64], list: &mut [u64]) -> PageIndexReply
-    ensures { λ r. ⌜ ToldList (now (words .entry)) (now (list .entry)) r (now (list .exit)) ⌝ }
+    ensures { λ r. ⌜ ToldWriting (listing (now (words .entry)) (length (now (list .entry)))) r (now (list .entry)) (now (list .exit)) ⌝ }
 {
     told(index::list(words, list))
 }

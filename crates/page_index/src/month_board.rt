@@ -4,7 +4,7 @@ use crate::told;
 ghost use lib.ListN.{length};
 ghost use Rattle.board.specs.Jobs.{setJob, readJob, removeJob};
 ghost use Rattle.board.specs.Print.{printYear};
-ghost use Rattle.page_index.specs.Told.{Told, ToldPrint};
+ghost use Rattle.page_index.specs.Told.{Told, ToldWriting};
 
 // Sets a job's pages.
 #[no_mangle]
@@ -51,7 +51,7 @@ pub extern "C" fn month_board_remove(
 // Prints a year's jobs into the buffer.
 #[no_mangle]
 pub extern "C" fn month_board_print(words: &[u64], year: u64, buffer: &mut [u8]) -> PageIndexReply
-    ensures { λ r. ⌜ ToldPrint (printYear (now (words .entry)) year (length (now (buffer .entry)))) r (now (buffer .entry)) (now (buffer .exit)) ⌝ }
+    ensures { λ r. ⌜ ToldWriting (printYear (now (words .entry)) year (length (now (buffer .entry)))) r (now (buffer .entry)) (now (buffer .exit)) ⌝ }
 {
     told(board::print(words, year, buffer))
 }

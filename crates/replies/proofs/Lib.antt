@@ -2,4 +2,5 @@
 pub mod Numbers
 pub mod Outcomes
 pub mod Sayable
+pub mod Writings
 pub mod Samples

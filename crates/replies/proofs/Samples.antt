@@ -1,16 +1,17 @@
--- The numbers of the refusals, what counts as done, and calls cut off. antt computes each from the definitions.
+-- The numbers of the refusals, what counts as done, calls cut off, and writings behind tests. antt computes each from the definitions.
 -- Assumes nothing.
 use Prim.Native.Nat.{ℕ}
 use mathlib.Core.Path.{_≡_, refl}
 use mathlib.Core.Bool.{Bool, true, false, not, _&&_}
 use mathlib.Core.List.{List, [], _∷_}
-use mathlib.Core.Option.{some}
+use mathlib.Core.Option.{none, some}
 use lib.Dec.{eqb}
 use Rattle.stores.specs.Store.{store, apply, exec}
 use Rattle.stores.specs.Plan.{Plan, Outcome, cut}
 use Rattle.replies.specs.declared.Refusal.the-variants.{NoStore, NoKey, Broken, Unmended, TooDeep, NoSegment, CutOff, BadShape, TooShort, ShortList, BadYear, BadMonth, BadNumber}
 use Rattle.stores.specs.Lists.{numbersSame}
 use Rattle.replies.specs.Replies.{numberOf, Said, done, absent, refused, isDone, isRefusal, saidSame, unless, tested, changed}
+use Rattle.replies.specs.Writing.{Writing, behindTests}
 
 pub numbers : List ℕ
 numbers =
@@ -28,14 +29,23 @@ two = record { due = store 0 5 ∷ store 1 6 ∷ []; reply = done [] }
 gives : Outcome Said → Said → ℕ → List ℕ → Bool
 gives o said made after = saidSame (o .reply) said && (eqb (o .made) made && numbersSame (o .after) after)
 
+-- Two words are written, and done is said with their number.
+written : Writing
+written = record { reply = done (2 ∷ []); words = 5 ∷ 6 ∷ [] }
+
+writes : Writing → Said → (words : List ℕ) → Bool
+writes w said words = saidSame (w .reply) said && numbersSame (w .words) words
+
 pub sample : Bool
 sample =
     (isDone (done []) && (not (isDone absent) && (not (isDone (refused 7)) && (isRefusal 7 (refused 7) && not (isRefusal 7 (refused 8))))))
     && (gives (changed 2 two (0 ∷ 0 ∷ [])) (done []) 2 (5 ∷ 6 ∷ [])
     && (gives (changed 1 two (0 ∷ 0 ∷ [])) (refused 7) 1 (5 ∷ 0 ∷ [])
     && (gives (changed 0 two (0 ∷ 0 ∷ [])) (refused 7) 0 (0 ∷ 0 ∷ [])
-    && gives (changed 0 (tested (unless true NoKey (unless false Broken (some Unmended))) two) (0 ∷ 0 ∷ [])) (refused 3) 0 (0 ∷ 0 ∷ []))))
+    && gives (changed 0 (tested (unless true NoKey (unless false Broken (some Unmended))) two) (0 ∷ 0 ∷ [])) (refused 3) 0 (0 ∷ 0 ∷ [])
+    && (writes (behindTests (unless true ShortList none) written) (done (2 ∷ [])) (5 ∷ 6 ∷ [])
+    && writes (behindTests (unless false ShortList none) written) (refused 10) []))))
 
 pub sample-passes : sample ≡ true
-unfolding sample two gives numbersSame saidSame unless tested changed cut exec apply
+unfolding sample two gives written writes numbersSame saidSame unless tested behindTests changed cut exec apply
 sample-passes = refl

@@ -15,6 +15,7 @@ use Rattle.replies.specs.declared.Refusal.the-variants.{CutOff}
 use Rattle.replies.specs.declared.Reply.{Reply}
 use Rattle.replies.specs.declared.Reply.the-variants.{Done, Value, Absent, Refused}
 use Rattle.replies.specs.Replies.{Said, refused, numberOf, refuse, saidBy, unless, tested, replied, changed}
+use Rattle.replies.specs.Writing.{Writing, behindTests}
 use Rattle.replies.proofs.Outcomes.{refused-not-done, refused-inj}
 
 module _ (gives : ℕ → Bool) where
@@ -58,6 +59,11 @@ module _ (gives : ℕ → Bool) where
   unfolding replied
   replied-sayable none s g k = k
   replied-sayable (some r) s g k = by (Refused r) g
+
+  pub writing-sayable : (t : Option Refusal) (w : Writing) → GivenBy t → Sayable (w .reply) → Sayable ((behindTests t w) .reply)
+  unfolding behindTests
+  writing-sayable none w g s = s
+  writing-sayable (some r) w g s = by (Refused r) g
 
   pick-sayable : (t : Bool) (s : Said) → gives 7 ≡ true → Sayable s → Sayable (pick t s (refuse CutOff))
   pick-sayable true s g k = k

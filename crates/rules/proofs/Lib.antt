@@ -19,4 +19,5 @@ pub mod Lookups
 pub mod Bound
 pub mod Full
 pub mod Range
+pub mod Listing
 pub mod Local

@@ -1,7 +1,7 @@
--- What a call says and stores depends only on the words that D and S take, and on the array's length.
+-- What a call says, stores and lists depends only on the words that D and S take, and on the array's length.
 -- Assumes nothing.
 use mathlib.Core.Path.{_≡_, refl, sym, ap, ap₂, _∙_}
-use mathlib.Core.Bool.{Bool, true, false, not, true≢false}
+use mathlib.Core.Bool.{Bool, true, false, not}
 use mathlib.Core.List.{List, [], _∷_, _++_}
 use mathlib.Core.Option.{Option, none, some}
 use mathlib.Core.Logic.{⊎-elim}
@@ -15,6 +15,7 @@ use lib.Pow.{pow-mono}
 use Rattle.stores.specs.Lists.{pick, each}
 use Rattle.stores.specs.Store.{Store, word, store, apply, exec}
 use Rattle.stores.specs.Plan.{Plan, Outcome, cut}
+use Rattle.stores.specs.Written.{atFront}
 use Rattle.stores.proofs.Tests.{cases}
 use Rattle.stores.proofs.Lists.{each-same, first-same, all-same, any-same}
 use Rattle.stores.proofs.Stores.{length-apply}
@@ -27,6 +28,7 @@ use Rattle.rules.specs.Keys.{index, blockBits}
 use Rattle.rules.specs.Scan.{inRange, validLeader, nextLeader, leader, leadingEntry, leadersValid, entriesAgree}
 use Rattle.rules.specs.Slots.{hit, Choice, found, into, full, choose, named, freeSegment}
 use Rattle.replies.specs.Replies.{Said, unless, tested, replied, changed}
+use Rattle.replies.specs.Writing.{Writing, nothing, behindTests}
 use Rattle.rules.specs.Format.{formatTests, format}
 use Rattle.rules.specs.Get.{keyEntry, keySegment, keyTests, entryTests, getTests, valueAtHit, get}
 use Rattle.rules.specs.Split.{doubling, moves, copySlot, copying, halvingOf, halving, doublingFor, splitting}
@@ -34,7 +36,7 @@ use Rattle.rules.specs.Put.{directoryTests, putTests, keyChoice, put}
 use Rattle.rules.specs.Remove.{removeTests, clearedAt, remove}
 use Rattle.rules.specs.Mend.{mendTests, mendEntry, mending, mend}
 use Rattle.rules.specs.Listing.{liveRecord, blockRecords, records, listTests, list}
-use Rattle.rules.specs.Step.{Effect, changes, answers, effect, carriedOut, step, lists}
+use Rattle.rules.specs.Step.{Effect, changes, answers, effect, carriedOut, wordsBy, step}
 use Rattle.rules.proofs.Words.{ValidHeader, valid-header, header-valid, entry-inside, directories-below}
 use Rattle.rules.proofs.Keys.{index-lt}
 use Rattle.rules.proofs.Slots.{hit-same, choose-same}
@@ -72,6 +74,10 @@ tested-same = behind-same tested (λ r x y. refl)
 replied-same : {o p : Option Refusal} {x y : Said} → o ≡ p → (o ≡ none → x ≡ y) → replied o x ≡ replied p y
 unfolding replied
 replied-same = behind-same replied (λ r x y. refl)
+
+writing-same : {o p : Option Refusal} {x y : Writing} → o ≡ p → (o ≡ none → x ≡ y) → behindTests o x ≡ behindTests p y
+unfolding behindTests
+writing-same = behind-same behindTests (λ r x y. refl)
 
 pick-same : {A : Type 0} (t : Bool) (x y z : A) → (t ≡ true → x ≡ y) → pick t x z ≡ pick t y z
 pick-same true x y z h = h refl
@@ -357,7 +363,7 @@ mend-local {a} {b} s =
 pub list-local : {a b : List ℕ} → Agree a b → (room : ℕ) → list a room ≡ list b room
 unfolding list listTests directoryTests
 list-local {a} {b} s room =
-    replied-same
+    writing-same
     (unless-same NoStore (header-same s)
     (λ h. directory-same s (valid-header a h) (λ k. rw (records-local s (valid-header a h) k))))
     (λ e.
@@ -431,7 +437,7 @@ carried-same : (e : Effect) (a b : List ℕ) → length a ≡ length b → SameO
 unfolding changed cut exec
 carried-same (changes allowance p) a b l =
     record { reply = refl; made = refl; words = λ i h. apply-same (take allowance (p .due)) a b i l h }
-carried-same (answers s) a b l = record { reply = refl; made = refl; words = λ i h. h }
+carried-same (answers w) a b l = record { reply = refl; made = refl; words = λ i h. h }
 
 alike-length : (a b : List ℕ) (s : Option Sizes) → AlikeFor a b s → length a ≡ length b
 alike-length a b none s = s .length-same
@@ -441,26 +447,18 @@ alike-length a b (some d) l = l
 pub effect-local : (a b : List ℕ) (room : ℕ) (c : Call) → Alike a b c → effect a room c ≡ effect b room c
 unfolding effect
 effect-local a b room (Format D S allowance) l = ap (changes allowance) (format-local a b D S l)
-effect-local a b room (Get key) s = ap answers (get-local s key)
+effect-local a b room (Get key) s = ap (λ (said : Said). answers (nothing said)) (get-local s key)
 effect-local a b room (Put key value allowance) s = ap (changes allowance) (put-local s key value)
 effect-local a b room (Remove key allowance) s = ap (changes allowance) (remove-local s key)
 effect-local a b room (Mend allowance) s = ap (changes allowance) (mend-local s)
 effect-local a b room ListCall s = ap answers (list-local s room)
 
-pub step-local : (a b : List ℕ) (room : ℕ) (c : Call) → Alike a b c → SameOutcome a b (step a room c) (step b room c)
+pub step-local : (a b l : List ℕ) (c : Call) → Alike a b c → SameOutcome a b (step a l c .outcome) (step b l c .outcome)
 unfolding step
-step-local a b room c s = rw (effect-local a b room c s) (carried-same (effect b room c) a b (alike-length a b (ownSizes c) s))
+step-local a b l c s =
+    rw (effect-local a b (length l) c s) (carried-same (effect b (length l) c) a b (alike-length a b (ownSizes c) s))
 
--- Only a call that lists looks at the length of the list array.
-pub effect-room : (a : List ℕ) (m n : ℕ) (c : Call) → lists c ≡ false → effect a m c ≡ effect a n c
-unfolding effect
-effect-room a m n (Format D S allowance) e = refl
-effect-room a m n (Get key) e = refl
-effect-room a m n (Put key value allowance) e = refl
-effect-room a m n (Remove key allowance) e = refl
-effect-room a m n (Mend allowance) e = refl
-effect-room a m n ListCall e = absurd (true≢false e)
-
-pub step-room : (a : List ℕ) (m n : ℕ) (c : Call) → lists c ≡ false → step a m c ≡ step a n c
+-- The list array is left the same.
+pub list-array-local : (a b l : List ℕ) (c : Call) → Alike a b c → step a l c .list ≡ step b l c .list
 unfolding step
-step-room a m n c e = ap (λ (f : Effect). carriedOut f a) (effect-room a m n c e)
+list-array-local a b l c s = ap (λ (e : Effect). atFront (wordsBy e) l) (effect-local a b (length l) c s)

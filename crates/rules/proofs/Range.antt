@@ -152,11 +152,11 @@ mend-range a =
 pub carried-length : (e : Effect) (a : List ℕ) → length ((carriedOut e a) .after) ≡ length a
 unfolding changed
 carried-length (changes allowance p) a = length-cut (refuse CutOff) allowance p a
-carried-length (answers s) a = refl
+carried-length (answers w) a = refl
 
-pub step-length : (a : List ℕ) (room : ℕ) (c : Call) → length ((step a room c) .after) ≡ length a
+pub step-length : (a l : List ℕ) (c : Call) → length ((step a l c) .outcome .after) ≡ length a
 unfolding step
-step-length a room c = carried-length (effect a room c) a
+step-length a l c = carried-length (effect a (length l) c) a
 
 -- The D and S that a call brings with it: a format has some.
 abbrev pub ownSizes : Call → Option Sizes
@@ -178,7 +178,7 @@ extent a c = extentOf a (ownSizes c)
 -- The stores that are due by an effect.
 abbrev pub dueBy : Effect → List Store
 dueBy (changes allowance p) = p .due
-dueBy (answers s) = []
+dueBy (answers w) = []
 
 -- No call's due store is beyond its extent.
 pub effect-range : (a : List ℕ) (room : ℕ) (c : Call) → Every (λ s. s .at < extent a c) (dueBy (effect a room c))
@@ -197,9 +197,9 @@ carried-untouched (changes allowance p) a end i h k =
     (word-elsewhere (take allowance (p .due)) a i
     (every-map (λ s. s .at < end) (λ s. s .at ≡ i → ⊥) (λ s l e. omega arith) (take allowance (p .due))
     (every-take (λ s. s .at < end) allowance (p .due) h)))
-carried-untouched (answers s) a end i h k = refl
+carried-untouched (answers w) a end i h k = refl
 
 -- No call changes a word beyond its extent.
-pub step-untouched : (a : List ℕ) (room : ℕ) (c : Call) (i : ℕ) → extent a c ≤ i → word ((step a room c) .after) i ≡ word a i
+pub step-untouched : (a l : List ℕ) (c : Call) (i : ℕ) → extent a c ≤ i → word ((step a l c) .outcome .after) i ≡ word a i
 unfolding step
-step-untouched a room c i h = carried-untouched (effect a room c) a (extent a c) i (effect-range a room c) h
+step-untouched a l c i h = carried-untouched (effect a (length l) c) a (extent a c) i (effect-range a (length l) c) h

@@ -10,6 +10,7 @@ use Prim.Native.Nat.{ℕ, suc, _^_, _≤_, _<_}
 use native.Mathlib.Omega.{arith}
 use borrow.Author.Tests.{eqb-true, ne-eqb}
 use lib.Dec.{eqb}
+use lib.ListN.{length}
 use Rattle.stores.specs.Store.{apply}
 use Rattle.stores.specs.Plan.{Plan, Outcome}
 use Rattle.stores.proofs.Lists.{some-none}
@@ -217,13 +218,13 @@ put-empty a key value n (inr h) says = absurd (omega (arith, put-says a key valu
 -- What a call says where none of its stores are made.
 abbrev pub replyBy : Effect → Said
 replyBy (changes allowance p) = p .reply
-replyBy (answers s) = s
+replyBy (answers w) = w .reply
 
 -- An effect that stores nothing where it says n.
 unchanged-carried : (e : Effect) (a : List ℕ) (n : ℕ) → (carriedOut e a) .reply ≡ refused n → (n ≡ 7 → ⊥)
     → (replyBy e ≡ refused n → dueBy e ≡ []) → Unchanged a (carriedOut e a)
 unchanged-carried (changes allowance p) a n says not-cut empty = unchanged-by allowance p a n says not-cut empty
-unchanged-carried (answers s) a n e not-cut empty = record { after = refl; made = refl }
+unchanged-carried (answers w) a n e not-cut empty = record { after = refl; made = refl }
 
 -- A call that is refused by another refusal than 5, 6 and 7 has no store due.
 pub refusal-empty : (a : List ℕ) (room : ℕ) (c : Call) (n : ℕ) → (n ≤ 4) ⊎ (8 ≤ n) → replyBy (effect a room c) ≡ refused n
@@ -238,8 +239,8 @@ refusal-empty a room (Mend allowance) n which = tested-empty (mendTests a) _ n (
 refusal-empty a room ListCall n which = λ e. refl
 
 -- A refusal other than 5, 6 and 7 makes no store and changes no word.
-pub refusal-unchanged : (a : List ℕ) (room : ℕ) (c : Call) (n : ℕ) → step a room c .reply ≡ refused n → (n ≤ 4) ⊎ (8 ≤ n)
-    → Unchanged a (step a room c)
+pub refusal-unchanged : (a l : List ℕ) (c : Call) (n : ℕ) → step a l c .outcome .reply ≡ refused n → (n ≤ 4) ⊎ (8 ≤ n)
+    → Unchanged a (step a l c .outcome)
 unfolding step
-refusal-unchanged a room c n says which =
-    unchanged-carried (effect a room c) a n says (not-seven n which) (refusal-empty a room c n which)
+refusal-unchanged a l c n says which =
+    unchanged-carried (effect a (length l) c) a n says (not-seven n which) (refusal-empty a (length l) c n which)

@@ -18,7 +18,7 @@ use Rattle.replies.specs.declared.Reply.the-variants.{Done, Value, Absent, Refu
 use Rattle.rules.specs.declared.Call.{Call}
 use Rattle.rules.specs.declared.Call.the-variants.{Format, Get, Put, Remove, Mend, List as ListCall}
 use Rattle.replies.specs.Replies.{Said, refused}
-use Rattle.replies.proofs.Sayable.{GivenBy, Sayable, by, unless-given, tested-sayable, replied-sayable, changed-sayable, refused-given}
+use Rattle.replies.proofs.Sayable.{GivenBy, Sayable, by, unless-given, tested-sayable, replied-sayable, writing-sayable, changed-sayable, refused-given}
 use Rattle.rules.specs.Layout.{validShape, wordsFor, validHeader, depth, segments}
 use Rattle.rules.specs.Scan.{inRange, leadersValid, entriesAgree}
 use Rattle.rules.specs.Format.{formatTests, format}
@@ -87,11 +87,11 @@ putUnused-sayable (suc u) a key value =
 -- A call that changes the array can give 7.
 abbrev CutGiven : Effect → (ℕ → Bool) → Type 0
 CutGiven (changes allowance p) may = may 7 ≡ true
-CutGiven (answers t) may = Unit {0}
+CutGiven (answers w) may = Unit {0}
 
 carried-sayable : (may : ℕ → Bool) (e : Effect) (a : List ℕ) → CutGiven e may → Sayable may (replyBy e) → Sayable may ((carriedOut e a) .reply)
 carried-sayable may (changes allowance p) a g s = changed-sayable may allowance p a g s
-carried-sayable may (answers t) a g s = s
+carried-sayable may (answers w) a g s = s
 
 cut-given : (a : List ℕ) (room : ℕ) (call : Call) → CutGiven (effect a room call) (gives call)
 unfolding effect gives refusalsOf has
@@ -126,18 +126,19 @@ effect-sayable a room (Mend allowance) =
     (by may Done Prim.tt)
 effect-sayable a room ListCall =
     let may = gives ListCall in
-    replied-sayable may _ _
+    writing-sayable may _ _
     (unless-given may (validHeader a) NoStore _ refl
     (directory-given may a _ refl refl (unless-given may (leb _ room) ShortList none refl Prim.tt)))
     (by may (Value _) Prim.tt)
 
-pub step-sayable : (a : List ℕ) (room : ℕ) (call : Call) → Sayable (gives call) ((step a room call) .reply)
+pub step-sayable : (a l : List ℕ) (call : Call) → Sayable (gives call) ((step a l call) .outcome .reply)
 unfolding step
-step-sayable a room call = carried-sayable (gives call) (effect a room call) a (cut-given a room call) (effect-sayable a room call)
+step-sayable a l call =
+    carried-sayable (gives call) (effect a (length l) call) a (cut-given a (length l) call) (effect-sayable a (length l) call)
 
 -- A refusal of a call is one that the table lists for it.
-pub refusal-listed : (a : List ℕ) (room : ℕ) (call : Call) (n : ℕ) → (step a room call) .reply ≡ refused n → gives call n ≡ true
-refusal-listed a room call n e = refused-given (gives call) n (step-sayable a room call) e
+pub refusal-listed : (a l : List ℕ) (call : Call) (n : ℕ) → (step a l call) .outcome .reply ≡ refused n → gives call n ≡ true
+refusal-listed a l call n e = refused-given (gives call) n (step-sayable a l call) e
 
 -- No call of the index gives 11, 12 or 13: they are the board's.
 allApart : List ℕ → Bool
@@ -162,10 +163,10 @@ has-apart (x ∷ xs) n h k =
     (λ (e : has xs n ≡ true). has-apart xs n (and-right (ltb x 11 || ltb 13 x) (allApart xs) h) e)
     (or-cases (eqb x n) (has xs n) k)
 
-pub not-the-boards : (a : List ℕ) (room : ℕ) (call : Call) (n : ℕ) → (step a room call) .reply ≡ refused n → (n < 11) ⊎ (13 < n)
+pub not-the-boards : (a l : List ℕ) (call : Call) (n : ℕ) → (step a l call) .outcome .reply ≡ refused n → (n < 11) ⊎ (13 < n)
 unfolding gives
-not-the-boards a room call n e =
+not-the-boards a l call n e =
     ⊎-elim
     (λ (t : ltb n 11 ≡ true). inl (ltb-true n 11 t))
     (λ (t : ltb 13 n ≡ true). inr (ltb-true 13 n t))
-    (or-cases (ltb n 11) (ltb 13 n) (has-apart (refusalsOf call) n (apart call) (refusal-listed a room call n e)))
+    (or-cases (ltb n 11) (ltb 13 n) (has-apart (refusalsOf call) n (apart call) (refusal-listed a l call n e)))

@@ -5,12 +5,13 @@ use Prim.Native.Nat.{ℕ, _+_, _*_}
 use mathlib.Core.Path.{_≡_, refl}
 use mathlib.Core.Bool.{true}
 use mathlib.Core.List.{List, [], _∷_, _++_}
+use lib.ListN.{length, replicate}
 use Rattle.stores.specs.Lists.{each}
 use Rattle.stores.specs.Store.{Store, store}
 use Rattle.rules.specs.declared.Call.{Call}
-use Rattle.rules.specs.declared.Call.the-variants.{Format, Get, Put, Remove, Mend, List as ListCall}
+use Rattle.rules.specs.declared.Call.the-variants.{Format, Get, Put, Remove, Mend}
 use Rattle.replies.specs.Replies.{Said, done, absent, refused}
-use Rattle.rules.proofs.Table.{Names, Lookup, Row, state, allPass}
+use Rattle.rules.proofs.Table.{Names, Lookup, Row, state, listing, allPass}
 use Rattle.rules.proofs.States.{F, P, fill, stands, names, page, missing, pages, row, sixteen, P263}
 
 -- ---- Damage to an index of D = 2, S = 4
@@ -50,11 +51,42 @@ moved = sixteen 4 ++ (P263 10000 ∷ [])
 -- A call on an index with damage.
 abbrev damaged : List Store → Call → Said → (made : ℕ) → List Store → List Names → List Lookup → Row
 damaged damage call said made words entries lookups =
-    state 520 (F 4 ∷ []) damage 0 call said made words entries lookups
+    state 520 (F 4 ∷ []) damage call said made words entries lookups
 
--- A list with a list array of `room` words.
-abbrev listed : List Call → (room : ℕ) → Said → Row
-listed before room said = state 520 before [] room ListCall said 0 [] [] []
+-- ---- Listings
+
+-- A list into words that are 5 each: it is to leave `words` in front, and behind them as many words as they were, `behind`.
+abbrev listed : List Call → List Store → Said → (words : List ℕ) → (behind : ℕ) → Row
+listed before damage said words behind =
+    listing 528 before damage (replicate (length words + behind) 5) said (words ++ replicate behind 5)
+
+-- A list that is refused, into `room` words.
+abbrev unlisted : List Call → List Store → (n room : ℕ) → Row
+unlisted before damage n room = listed before damage (refused n) [] room
+
+-- The words of n pages, of the keys `first`, `first + by` and so on.
+abbrev pageWords : (first by n : ℕ) → List ℕ
+pageWords first by n = each (λ i. (first + by * i) ∷ 10 * (first + by * i) ∷ []) n
+
+-- An index of D = 3, S = 4 with blocks of depth 3, 3, 2 and 1, from the left, made by three splits: they name segments 0, 3, 2
+-- and 1. Sixteen pages stand in the first, then two, one and two.
+abbrev threeDepths : List Call
+threeDepths = Format 3 4 10000 ∷ fill 7 128 16 ++ (P 2055 ∷ P 67 ∷ P 449 ∷ P 37 ∷ P 146 ∷ P 25 ∷ [])
+
+-- In an index of D = 3: entry i of the directory of depth 3, which starts at word 8, and the page of a key in slot j of segment s.
+abbrev entry₃ : (i s L : ℕ) → Store
+entry₃ i s L = store (8 + i) (s + 0x100000000 * L)
+
+abbrev slotOf : (s j key : ℕ) → List Store
+slotOf s j key = store (16 + 128 * s + 2 * j) key ∷ store (17 + 128 * s + 2 * j) (10 * key) ∷ []
+
+-- Blocks of depth 1, 2, 3 and 3, from the left, that name segments 2, 0, 3 and 1. In segment 2 slot 12 has a key of the right half:
+-- it is stale there.
+abbrev mixedOrders : List Store
+mixedOrders =
+    store 0 0x5041474500040303 ∷ entry₃ 0 2 1 ∷ entry₃ 1 2 1 ∷ entry₃ 2 2 1 ∷ entry₃ 3 2 1 ∷ entry₃ 4 0 2 ∷ entry₃ 5 0 2 ∷ entry₃ 6 3 3
+    ∷ entry₃ 7 1 3
+    ∷ slotOf 2 4 1025 ++ slotOf 2 12 19 ++ slotOf 2 20 5 ++ slotOf 0 0 80 ++ slotOf 0 63 31 ++ slotOf 3 8 306 ++ slotOf 3 9 50 ++ slotOf 1 1 112
 
 pub samples : List Row
 unfolding each
@@ -73,7 +105,7 @@ samples =
     ∷ row 520 (F 4 ∷ P 7 ∷ []) (Mend 0) (done []) 0 [] [] (page 7 ∷ [])
     -- a format cut before its last store leaves no index; a whole one takes any array
     ∷ row 520 [] (Format 2 4 66) (refused 7) 66 (stands 0 0 ∷ []) [] (record { key = 7; said = refused 1 } ∷ [])
-    ∷ state 520 [] (store 0 5 ∷ store 1 5 ∷ store 64 7 ∷ []) 0 (F 4) (done []) 67 (stands 1 0 ∷ stands 64 0 ∷ []) (names 0 0 ∷ []) (missing 7 ∷ [])
+    ∷ state 520 [] (store 0 5 ∷ store 1 5 ∷ store 64 7 ∷ []) (F 4) (done []) 67 (stands 1 0 ∷ stands 64 0 ∷ []) (names 0 0 ∷ []) (missing 7 ∷ [])
     -- the copy step stores value, then key
     ∷ row 520 (sixteen 4) (P263 33) (refused 7) 33 (stands 195 230 ∷ stands 194 0 ∷ []) [] []
     ∷ row 520 (sixteen 4) (P263 34) (refused 7) 34 (stands 195 230 ∷ stands 194 23 ∷ []) [] []
@@ -106,11 +138,11 @@ samples =
     ∷ damaged (four 0 1 1 1 9 1 9 1) (P 7) (refused 3) 0 [] [] (missing 7 ∷ record { key = 23; said = refused 3 } ∷ [])
     ∷ damaged (four 0 1 1 1 9 1 9 1) (Remove 7 10000) (refused 3) 0 [] [] []
     ∷ damaged (four 0 1 1 1 9 1 9 1) (Mend 10000) (refused 3) 0 [] [] []
-    ∷ damaged (four 0 1 1 1 9 1 9 1) ListCall (refused 3) 0 [] [] []
+    ∷ unlisted (F 4 ∷ []) (four 0 1 1 1 9 1 9 1) 3 2
     -- 4 where the leaders are valid and an entry differs from its leader; 2 before 4
     ∷ damaged (four 0 1 1 1 2 1 2 1) (P 7) (refused 4) 0 [] [] []
     ∷ damaged (four 0 1 1 1 2 1 2 1) (Remove 7 10000) (refused 4) 0 [] [] []
-    ∷ damaged (four 0 1 1 1 2 1 2 1) ListCall (refused 4) 0 [] [] []
+    ∷ unlisted (F 4 ∷ []) (four 0 1 1 1 2 1 2 1) 4 2
     ∷ damaged (four 0 1 1 1 2 1 2 1) (P 0) (refused 2) 0 [] [] []
     ∷ damaged (four 0 1 1 1 2 1 2 1) (Remove 0 10000) (refused 2) 0 [] [] []
     -- a leader that is too deep, and one whose index is no multiple of its width
@@ -120,18 +152,28 @@ samples =
     ∷ damaged (store 0 0 ∷ []) (P 0) (refused 1) 0 [] [] (record { key = 0; said = refused 1 } ∷ [])
     ∷ damaged (store 0 0x5041474500040203 ∷ []) (P 7) (refused 1) 0 [] [] []
     ∷ damaged (store 0 0x5041474500050200 ∷ []) (Mend 10000) (refused 1) 0 [] [] []
-    ∷ damaged (store 0 0x5041474500040d00 ∷ []) ListCall (refused 1) 0 [] [] []
-    ∷ state 519 [] (store 0 0x5041474500040200 ∷ []) 0 (Remove 7 10000) (refused 1) 0 [] [] []
+    ∷ unlisted (F 4 ∷ []) (store 0 0x5041474500040d00 ∷ []) 1 2
+    ∷ state 519 [] (store 0 0x5041474500040200 ∷ []) (Remove 7 10000) (refused 1) 0 [] [] []
     ∷ row 0 [] (P 7) (refused 1) 0 [] [] []
     ∷ row 0 [] (F 4) (refused 9) 0 [] [] []
     -- a get of key 0
     ∷ row 520 (F 4 ∷ []) (Get 0) (refused 2) 0 [] [] []
-    -- a list has every live record once, no stale one, and needs two words for each
-    ∷ listed (F 4 ∷ []) 0 (done (0 ∷ []))
-    ∷ listed (sixteen 4) 32 (done (16 ∷ []))
-    ∷ listed (sixteen 4) 31 (refused 10)
-    ∷ listed moved 34 (done (17 ∷ []))
-    ∷ listed moved 33 (refused 10)
+    -- a list has every live record once, no stale one, needs two words for each, and leaves the words behind them
+    ∷ listed (F 4 ∷ []) [] (done (0 ∷ [])) [] 0
+    ∷ listed (F 4 ∷ []) [] (done (0 ∷ [])) [] 3
+    ∷ listed (sixteen 4) [] (done (16 ∷ [])) (pageWords 7 16 16) 0
+    ∷ unlisted (sixteen 4) [] 10 31
+    -- by rising slot number, which is not that of the keys: 263 stands in slot 29, between 7 and 39
+    ∷ listed moved [] (done (17 ∷ [])) (7 ∷ 70 ∷ 263 ∷ 2630 ∷ pageWords 39 32 7 ++ pageWords 23 32 8) 2
+    ∷ unlisted moved [] 10 33
+    -- block by block from the left, which is not the order of the segment numbers
+    ∷ listed threeDepths [] (done (21 ∷ []))
+    (pageWords 7 128 16 ++ (449 ∷ 4490 ∷ 67 ∷ 670 ∷ 37 ∷ 370 ∷ 146 ∷ 1460 ∷ 25 ∷ 250 ∷ []))
+    1
+    ∷ listed (Format 3 4 10000 ∷ []) mixedOrders (done (7 ∷ []))
+    (1025 ∷ 10250 ∷ 5 ∷ 50 ∷ 80 ∷ 800 ∷ 31 ∷ 310 ∷ 306 ∷ 3060 ∷ 50 ∷ 500 ∷ 112 ∷ 1120 ∷ [])
+    2
+    ∷ unlisted (Format 3 4 10000 ∷ []) mixedOrders 10 13
     ∷ []
 
 pub samples-pass : allPass samples ≡ true

@@ -46,7 +46,7 @@ pages first step n = each (λ i. page (first + step * i) ∷ []) n
 
 -- A row: the words lent, the calls before, the call, what it says, the stores made, and what is to be seen afterwards.
 abbrev pub row : (lent : ℕ) → List Call → Call → Said → (made : ℕ) → List Store → List Names → List Lookup → Row
-row lent before call said made words entries lookups = state lent before [] 0 call said made words entries lookups
+row lent before call said made words entries lookups = state lent before [] call said made words entries lookups
 
 -- The sixteen keys of states e to h, and those of state i, put into an index of S segments.
 abbrev pub sixteen : (S : ℕ) → List Call

@@ -10,19 +10,21 @@ use Rattle.stores.specs.Lists.{each, firstIn, allBelow, anyBelow, numbersSame}
 use Rattle.stores.specs.Store.{Store, word, apply, exec}
 use Rattle.stores.specs.Plan.{Outcome, cut}
 use Rattle.rules.specs.declared.Call.{Call}
+use Rattle.rules.specs.declared.Call.the-variants.{List as ListCall}
 use Rattle.rules.specs.Layout.{depthIn, maxDepthIn, segmentsIn, markIn, header, depth, wordsFor, validShape, validHeader, entryAddress, entryAt, segmentOf, localDepth, entry, segmentAddress}
 use Rattle.rules.specs.Keys.{bucket, directoryBits, bitOf, firstBits, bit, index, width, blockBits, blockStart, live, windowBucket, slotsOf, window}
 use Rattle.rules.specs.Scan.{inRange, validLeader, nextLeader, leader, leadersValid, entriesAgree}
 use Rattle.rules.specs.Slots.{hit, isEmpty, isStale, slotForNew, chosen, choose, named, freeSegment}
 use Rattle.replies.specs.Replies.{Said, saidSame, unless, tested, replied, changed}
+use Rattle.replies.specs.Writing.{behindTests}
 use Rattle.rules.specs.Format.{formatTests, formatStores, format}
 use Rattle.rules.specs.Get.{keyEntry, keySegment, keyTests, entryTests, getTests, valueAtHit, get}
 use Rattle.rules.specs.Split.{doubling, moves, copySlot, copying, halfEntry, updating, halvingOf, halving, doublingFor, splitting}
 use Rattle.rules.specs.Put.{directoryTests, putTests, keyChoice, placed, intoFree, putUnused, unused, put}
 use Rattle.rules.specs.Remove.{removeTests, clearedAt, remove}
 use Rattle.rules.specs.Mend.{mendTests, mendEntry, mending, mend}
-use Rattle.rules.specs.Listing.{liveRecord, blockRecords, records, listTests, list}
-use Rattle.rules.specs.Step.{effect, step}
+use Rattle.rules.specs.Listing.{liveRecord, blockRecords, records, wordsOf, listTests, list}
+use Rattle.rules.specs.Step.{effect, Step, step, outcomeOf}
 
 -- ---- Rows
 
@@ -41,24 +43,26 @@ pub data Row : Type 0 where
   buckets : (key : ℕ) → List ℕ → Row
   -- the key's index in the directory of this depth
   indexed : (depth key i : ℕ) → Row
-  -- A state. `lent` words, all 0, are lent; the calls `before` are made, then the stores `damage`; then `call`, with a list
-  -- array of `room` words. It is to say `said` with `made` stores; and afterwards `words` are to stand at their addresses,
-  -- `entries` in the present directory from index 0 on, and `lookups` to answer so.
-  state : (lent : ℕ) (before : List Call) (damage : List Store) (room : ℕ) (call : Call) (said : Said) (made : ℕ)
+  -- A state. `lent` words, all 0, are lent; the calls `before` are made, then the stores `damage`; then `call`. It is to say `said`
+  -- with `made` stores; and afterwards `words` are to stand at their addresses, `entries` in the present directory from index 0
+  -- on, and `lookups` to answer so.
+  state : (lent : ℕ) (before : List Call) (damage : List Store) (call : Call) (said : Said) (made : ℕ)
       (words : List Store) (entries : List Names) (lookups : List Lookup)
       → Row
+  -- A listing, behind the same: a list into the list array `list`. It is to say `said` with no store, and to leave `left` there.
+  listing : (lent : ℕ) (before : List Call) (damage : List Store) (list : List ℕ) (said : Said) (left : List ℕ) → Row
 
 -- ---- The test
 
 -- A step that antt computes: an `unfolding` line that names it opens all definitions of the calls.
-unfoldable pub computed : List ℕ → (room : ℕ) → Call → Outcome Said
-unfolding each firstIn allBelow anyBelow apply exec cut depthIn maxDepthIn segmentsIn markIn header wordsFor validShape validHeader entryAddress segmentOf localDepth entry segmentAddress bucket directoryBits bitOf firstBits bit index width blockBits blockStart live windowBucket slotsOf window inRange validLeader nextLeader leader leadersValid entriesAgree hit isEmpty isStale orElse slotForNew chosen choose named freeSegment unless tested replied formatTests formatStores format keyEntry keySegment keyTests entryTests getTests valueAtHit get doubling moves copySlot copying halfEntry updating halvingOf halving doublingFor splitting directoryTests putTests keyChoice placed intoFree putUnused unused put removeTests clearedAt remove mendTests mendEntry mending mend liveRecord blockRecords records listTests list changed effect step
-computed a room call = step a room call
+unfoldable pub computed : (a l : List ℕ) → Call → Step
+unfolding each firstIn allBelow anyBelow apply exec cut depthIn maxDepthIn segmentsIn markIn header wordsFor validShape validHeader entryAddress segmentOf localDepth entry segmentAddress bucket directoryBits bitOf firstBits bit index width blockBits blockStart live windowBucket slotsOf window inRange validLeader nextLeader leader leadersValid entriesAgree hit isEmpty isStale orElse slotForNew chosen choose named freeSegment unless tested replied formatTests formatStores format keyEntry keySegment keyTests entryTests getTests valueAtHit get doubling moves copySlot copying halfEntry updating halvingOf halving doublingFor splitting directoryTests putTests keyChoice placed intoFree putUnused unused put removeTests clearedAt remove mendTests mendEntry mending mend liveRecord blockRecords records wordsOf listTests list behindTests changed effect step
+computed a l call = step a l call
 
 -- The array after some calls, each made with no list array.
 afterCalls : List ℕ → List Call → List ℕ
 afterCalls a [] = a
-afterCalls a (c ∷ cs) = afterCalls ((step a 0 c) .after) cs
+afterCalls a (c ∷ cs) = afterCalls ((outcomeOf a c) .after) cs
 
 wordsSeen : List ℕ → List Store → Bool
 wordsSeen a [] = true
@@ -79,17 +83,28 @@ outcomePasses o said made words entries lookups =
     (saidSame (o .reply) said && eqb (o .made) made)
     && (wordsSeen (o .after) words && (entriesSeen (o .after) 0 entries && lookupsSeen (o .after) lookups))
 
+listPasses : Step → Said → (left : List ℕ) → Bool
+listPasses s said left =
+    (saidSame (s .outcome .reply) said && eqb (s .outcome .made) 0)
+    && numbersSame (s .list) left
+
+-- The array behind calls and damage.
+prepared : (lent : ℕ) → List Call → List Store → List ℕ
+prepared lent before damage = apply damage (afterCalls (replicate lent 0) before)
+
 windowBuckets : (key : ℕ) → List ℕ
 windowBuckets key = each (λ b. windowBucket key b ∷ []) 4
 
 passes : Row → Bool
 passes (buckets key bs) = numbersSame (windowBuckets key) bs
 passes (indexed g key i) = eqb (index key g) i
-passes (state lent before damage room call said made words entries lookups) =
-    outcomePasses (step (apply damage (afterCalls (replicate lent 0) before)) room call) said made words entries lookups
+passes (state lent before damage call said made words entries lookups) =
+    outcomePasses (outcomeOf (prepared lent before damage) call) said made words entries lookups
+passes (listing lent before damage list said left) =
+    listPasses (step (prepared lent before damage) list ListCall) said left
 
 -- Every row of the table passes.
 unfoldable pub allPass : List Row → Bool
-unfolding computed numbersSame saidSame afterCalls wordsSeen entriesSeen lookupsSeen outcomePasses windowBuckets passes
+unfolding computed numbersSame saidSame afterCalls wordsSeen entriesSeen lookupsSeen outcomePasses listPasses prepared windowBuckets passes
 allPass [] = true
 allPass (r ∷ rs) = passes r && allPass rs

@@ -11,4 +11,5 @@ pub mod Remove
 pub mod Mend
 pub mod Listing
 pub mod Step
+pub mod SameListing
 pub mod Given

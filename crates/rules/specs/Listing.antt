@@ -1,18 +1,18 @@
--- Document 01, 'The calls and their stores': list, which makes no store in the index.
+-- Document 01, 'The calls and their stores': list, which makes no store in the index; and its order, document 02, wish 3.
 -- Assumes nothing.
 use Prim.Native.Nat.{ℕ, _*_, _^_}
-use mathlib.Core.Path.{_≡_}
-use mathlib.Core.List.{List, [], _∷_, _++_, List·Permᴰ}
+use mathlib.Core.List.{List, [], _∷_}
 use mathlib.Core.Option.{Option, none}
 use lib.Dec.{leb, eqb}
-use lib.ListN.{length, drop}
+use lib.ListN.{length}
 use Rattle.stores.specs.Lists.{pick, each}
 use Rattle.replies.specs.declared.Refusal.{Refusal}
 use Rattle.replies.specs.declared.Refusal.the-variants.{NoStore, ShortList}
 use Rattle.rules.specs.Layout.{validHeader, depth, maxDepth, entryAt, segmentOf, localDepth, segmentAddress, keyAt, valueAt}
 use Rattle.rules.specs.Keys.{blockBits, live}
 use Rattle.rules.specs.Scan.{leader}
-use Rattle.replies.specs.Replies.{Said, done, unless, replied}
+use Rattle.replies.specs.Replies.{done, unless}
+use Rattle.replies.specs.Writing.{Writing, behindTests}
 use Rattle.rules.specs.Put.{directoryTests}
 
 -- A record: a key and its value.
@@ -30,7 +30,7 @@ unfoldable pub blockRecords : List ℕ → (i e : ℕ) → List Record
 blockRecords a i e =
     each (liveRecord a (segmentAddress (maxDepth a) (segmentOf e)) (localDepth e) (blockBits (depth a) (localDepth e) i)) 64
 
--- Every live record: for each block, each slot live there.
+-- Every live record: block by block from the left of the directory, and within a block's segment by rising slot number.
 unfoldable pub records : List ℕ → List Record
 records a =
     each (λ i. pick (eqb (leader a (depth a) i) i) (blockRecords a i (entryAt a (depth a) i)) []) (2 ^ depth a)
@@ -45,13 +45,6 @@ unfoldable pub listTests : List ℕ → (room : ℕ) → Option Refusal
 listTests a room =
     unless (validHeader a) NoStore (directoryTests a (unless (leb (2 * length (records a)) room) ShortList none))
 
--- What a list says: the number of records.
-unfoldable pub list : List ℕ → (room : ℕ) → Said
-list a room = replied (listTests a room) (done (length (records a) ∷ []))
-
--- What a done list of the array a leaves in the list array l: the records in some order, key then value, and behind them
--- what stood there. The order is the program's choice; every choice holds the same records.
-pub record Listed (a l l′ : List ℕ) : Type 0 where
-  pub order : List Record
-  pub same : List·Permᴰ order (records a)
-  pub words : l′ ≡ wordsOf order ++ drop (length (wordsOf order)) l
+-- What a list says and writes: the number of records, and the records, in their order.
+unfoldable pub list : List ℕ → (room : ℕ) → Writing
+list a room = behindTests (listTests a room) (record { reply = done (length (records a) ∷ []); words = wordsOf (records a) })

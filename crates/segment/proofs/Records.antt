@@ -1,19 +1,21 @@
 -- Live records slot by slot, and their words.
 -- Assumes nothing.
-use Prim.Native.Nat.{ℕ, zero, suc, _+_, _*_, _≤_, _<_}
+use Prim.Native.Nat.{ℕ, zero, suc, _+_, _≤_, _<_}
 use native.Mathlib.Nat.{add-zero, eq-or-lt-of-le, le-of-suc-le-suc, not-suc-le-zero}
 use native.Mathlib.Numerals.{add-one}
 use native.Mathlib.Omega.{arith}
-use mathlib.Core.Path.{_≡_, refl, ap, _∙_}
+use mathlib.Core.Path.{_≡_, _∙_}
 use mathlib.Core.Bool.{true, false}
 use mathlib.Core.List.{List, [], _∷_, _++_}
 use mathlib.Core.Logic.{⊎-elim}
 use lib.ListN.{length, set, length-append}
 use Rattle.stores.specs.Lists.{each}
 use Rattle.stores.proofs.Lists.{each-zero, each-suc}
+use Rattle.stores.proofs.Tests.{cases}
 use Rattle.rules.specs.Layout.{keyAt, valueAt}
 use Rattle.rules.specs.Keys.{live}
 use Rattle.rules.specs.Listing.{Record, liveRecord, wordsOf}
+use Rattle.rules.proofs.Listing.{words-none, words-one}
 use Rattle.segment.specs.Slot.{SlotHolds}
 use Rattle.segment.specs.declared.Held.{Held}
 use Rattle.stores.specs.Written.{Written}
@@ -50,6 +52,15 @@ module _ (a : List ℕ) (L bits : ℕ) where
   pub count-stale : (n : ℕ) → live L bits (keyAt a 0 n) ≡ false → length (recordsBelow a L bits (n + 1)) ≡ length (recordsBelow a L bits n)
   count-stale n t = count-more n ∙ rw (record-stale n t) (add-zero (length (recordsBelow a L bits n)))
 
+  -- At most one record for each slot.
+  pub count-small : (n : ℕ) → length (recordsBelow a L bits n) ≤ n
+  count-small zero = rw records-none (omega arith)
+  count-small (suc n) =
+      ⊎-elim
+      (λ (t : live L bits (keyAt a 0 n) ≡ true). rw (← add-one n) (omega (arith, count-small n, count-live n t)))
+      (λ (t : live L bits (keyAt a 0 n) ≡ false). rw (← add-one n) (omega (arith, count-small n, count-stale n t)))
+      (cases (live L bits (keyAt a 0 n)))
+
   -- A live slot below n counts among the records below n.
   pub count-room : (j n : ℕ) → j < n → live L bits (keyAt a 0 j) ≡ true
       → length (recordsBelow a L bits j) + 1 ≤ length (recordsBelow a L bits n)
@@ -61,24 +72,6 @@ module _ (a : List ℕ) (L bits : ℕ) where
       (eq-or-lt-of-le (le-of-suc-le-suc k))
 
 -- ---- Records as words
-
-pub words-none : wordsOf [] ≡ []
-unfolding wordsOf
-words-none = refl
-
-words-one : (r : Record) → wordsOf (r ∷ []) ≡ r .key ∷ r .value ∷ []
-unfolding wordsOf
-words-one r = refl
-
-pub words-append : (rs ss : List Record) → wordsOf (rs ++ ss) ≡ wordsOf rs ++ wordsOf ss
-unfolding wordsOf
-words-append [] ss = refl
-words-append (r ∷ rs) ss = ap (λ (l : List ℕ). r .key ∷ r .value ∷ l) (words-append rs ss)
-
-pub length-words : (rs : List Record) → length (wordsOf rs) ≡ 2 * length rs
-unfolding wordsOf
-length-words [] = refl
-length-words (r ∷ rs) = let h : length (wordsOf rs) ≡ 2 * length rs = length-words rs in omega arith
 
 -- A slot's record written, or not, by its key.
 module _ (a : List ℕ) (L bits j : ℕ) (h : Held) (k : SlotHolds a j h) (at : ℕ) (l : List ℕ) where

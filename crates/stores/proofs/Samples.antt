@@ -1,10 +1,12 @@
--- A plan of three stores on an array of three words, under each allowance: a table that antt computes from the definitions.
+-- A plan of three stores on an array of three words, under each allowance, stores in a part, and words in front: tables that antt
+-- computes from the definitions.
 -- Assumes nothing.
 use Prim.Native.Nat.{ℕ}
 use mathlib.Core.Path.{_≡_, refl}
 use mathlib.Core.List.{List, [], _∷_}
 use Rattle.stores.specs.Store.{store, apply, exec, shifted}
 use Rattle.stores.specs.Plan.{Plan, Outcome, cut}
+use Rattle.stores.specs.Written.{atFront}
 
 -- Two stores at address 1, and one between them at address 2; the reply is 0.
 abbrev pub plan : Plan ℕ
@@ -25,3 +27,9 @@ cuts = refl
 pub in-a-part : apply (shifted 1 (store 0 8 ∷ store 1 9 ∷ [])) (5 ∷ 0 ∷ 0 ∷ []) ≡ 5 ∷ 8 ∷ 9 ∷ []
 unfolding apply shifted
 in-a-part = refl
+
+-- Two words in front of three, of as many, and none.
+pub in-front : _≡_ {A = List (List ℕ)}
+    (atFront (8 ∷ 9 ∷ []) (5 ∷ 6 ∷ 7 ∷ []) ∷ atFront (8 ∷ 9 ∷ []) (5 ∷ 6 ∷ []) ∷ atFront [] (5 ∷ 6 ∷ []) ∷ [])
+    ((8 ∷ 9 ∷ 7 ∷ []) ∷ (8 ∷ 9 ∷ []) ∷ (5 ∷ 6 ∷ []) ∷ [])
+in-front = refl

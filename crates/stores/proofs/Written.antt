@@ -1,14 +1,14 @@
 -- Words written to a list one behind the other.
 -- Assumes nothing.
 use Prim.Native.Nat.{ℕ, _+_, _≤_, _<_}
-use native.Mathlib.Nat.{add-zero}
+use native.Mathlib.Nat.{add-zero, zero-add}
 use native.Mathlib.Numerals.{add-one}
 use native.Mathlib.Omega.{arith}
 use mathlib.Core.Path.{_≡_, refl, sym, ap, _∙_}
 use mathlib.Core.List.{List, [], _∷_, _++_, append-assoc, append-nil}
-use lib.ListN.{length, take, drop, set, length-append, take-append-drop}
+use lib.ListN.{length, take, drop, set, length-append, length-drop, take-append-drop}
 use lib.Seq.{length-take-le, sets-eq, take-at, drop-at, drop-append-add, drop-drop}
-use Rattle.stores.specs.Written.{Written}
+use Rattle.stores.specs.Written.{atFront, Written}
 
 pub written-none : (at : ℕ) (l : List ℕ) → Written [] at l at l
 written-none at l =
@@ -61,3 +61,17 @@ written-append vs ws at l m l₁ n l₂ h p q =
       behind = rw (length-append vs ws) (omega (arith, p .behind, q .behind));
       list = q .list ∙ rw (kept, left, append-assoc (take at l) vs ws);
     }
+
+-- ---- Words in front
+
+-- Words written from position 0 on stand in front.
+pub written-at-front : (ws l : List ℕ) (next : ℕ) (l′ : List ℕ) → Written ws 0 l next l′ → l′ ≡ atFront ws l
+written-at-front ws l next l′ w = w .list ∙ ap (λ (i : ℕ). ws ++ drop i l) (zero-add (length ws))
+
+-- They are read back from there.
+pub at-front-words : (ws l : List ℕ) → take (length ws) (atFront ws l) ≡ ws
+at-front-words ws l = take-at ws (drop (length ws) l) (length ws) refl
+
+-- Where they fit, the list keeps its length.
+pub at-front-length : (ws l : List ℕ) → length ws ≤ length l → length (atFront ws l) ≡ length l
+at-front-length ws l h = length-append ws (drop (length ws) l) ∙ rw (length-drop (length ws) l) (omega arith)

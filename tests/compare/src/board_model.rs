@@ -33,7 +33,7 @@ pub fn perform(words: &mut [u64], call: BoardCall) -> Answer {
         BoardCall::Read(job) => key(job).map(Call::Get),
         BoardCall::Remove(job, n) => key(job).map(|key| Call::Remove(key, n)),
     };
-    of_index.map_or_else(refused, |call| model::perform(words, 0, &mut Vec::new(), call))
+    of_index.map_or_else(refused, |call| model::perform(words, &mut [], call))
 }
 
 /// The lines of a year, or the refusal of the year or of a lookup.

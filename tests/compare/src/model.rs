@@ -266,8 +266,9 @@ fn mend(draft: &mut Draft) -> u32 {
     DONE
 }
 
-/// The records of the walk's segments.
-fn records(words: &[u64]) -> Result<Vec<(u64, u64)>, u32> {
+/// The records of the walk's segments, key then value: block by block from the left of the directory, and by
+/// rising slot number within a segment (document 02, wish 3).
+fn records(words: &[u64]) -> Result<Vec<u64>, u32> {
     let shape = shape(words).ok_or(1u32)?;
     let mut found = Vec::new();
     for block in walk(words, shape)? {
@@ -276,15 +277,15 @@ fn records(words: &[u64]) -> Result<Vec<(u64, u64)>, u32> {
         for slot in 0..64 {
             let at = slot_address(shape, e.segment, slot);
             if is_live(words[at], &bits) {
-                found.push((words[at], words[at + 1]));
+                found.extend([words[at], words[at + 1]]);
             }
         }
     }
     Ok(found)
 }
 
-/// Makes a call on the array; `list` takes the records of a done list.
-pub fn perform(words: &mut [u64], room: usize, list: &mut Vec<(u64, u64)>, call: Call) -> Answer {
+/// Makes a call on the array; a done list writes its records to `list`, and words behind them stay.
+pub fn perform(words: &mut [u64], list: &mut [u64], call: Call) -> Answer {
     let mut draft = Draft { words: words.to_vec(), due: Vec::new() };
     let (code, allowance) = match call {
         Call::Get(key) => {
@@ -297,10 +298,10 @@ pub fn perform(words: &mut [u64], room: usize, list: &mut Vec<(u64, u64)>, call:
         Call::List => {
             return match records(words) {
                 Err(code) => Answer::plain(code),
-                Ok(found) if room < 2 * found.len() => Answer::plain(10),
+                Ok(found) if list.len() < found.len() => Answer::plain(10),
                 Ok(found) => {
-                    *list = found;
-                    Answer { code: DONE, stores: 0, value: list.len() as u64 }
+                    list[..found.len()].copy_from_slice(&found);
+                    Answer { code: DONE, stores: 0, value: found.len() as u64 / 2 }
                 }
             }
         }

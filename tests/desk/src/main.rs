@@ -67,7 +67,7 @@ fn run(script: &[u8]) -> String {
     let mut output = String::new();
     for line in script.split(|&byte| byte == b'\n').filter(|line| !line.is_empty()) {
         output += &match call_of(line) {
-            Some(call) => answer_line(call, perform(&mut words, LIST_WORDS, &mut Vec::new(), call)),
+            Some(call) => answer_line(call, perform(&mut words, &mut [0; LIST_WORDS], call)),
             None => "?\n".to_string(),
         };
     }

@@ -1,4 +1,4 @@
--- `index::list` meets its contract. The order is that of the records as document 01's definition has them.
+-- `index::list` meets its contract.
 -- Assumes nothing.
 use borrow.Author.Needs.{needs}
 use mathlib.Core.Path.{ap, _∙_}

@@ -2,7 +2,7 @@
 -- Assumes nothing.
 use mathlib.Core.Path.{refl}
 use borrow.Author.Needs.{needs}
-use Rattle.index.proofs.Performs.{performed}
+use Rattle.index.proofs.Performs.{performed, wrote-performed}
 use Rattle.index.proofs.perform.Statement.{statement}
 use Rattle.index.proofs.perform.Tie as tie
 
@@ -79,7 +79,7 @@ same-length-7 : tie.Need-same-length-7
 same-length-7 c = search needs
 
 returns-6 : tie.Need-returns-6
-returns-6 c = rw (c .before .before .before .before .before .enum-told .given .1) (c .before .before .list .ensures)
+returns-6 c = rw (c .before .before .before .before .before .enum-told .given .1) (wrote-performed _ _ _ _ (c .before .before .list .ensures))
 
 pub perform-spec : {M : Type 1} → statement M
 perform-spec =

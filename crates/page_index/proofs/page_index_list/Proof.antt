@@ -1,7 +1,7 @@
 -- `page_index::page_index_list` meets its contract.
 -- Assumes nothing.
 use borrow.Author.Needs.{needs}
-use Rattle.page_index.proofs.Tellings.{told-listed}
+use Rattle.page_index.proofs.Tellings.{told-wrote}
 use Rattle.page_index.proofs.page_index_list.Statement.{statement}
 use Rattle.page_index.proofs.page_index_list.Tie as tie
 
@@ -15,7 +15,7 @@ same-length : tie.Need-same-length
 same-length c = search needs
 
 returns : tie.Need-returns
-returns c = search (needs, told-listed)
+returns c = search (needs, told-wrote)
 
 pub page-index-list-spec : {M : Type 1} → statement M
 page-index-list-spec = tie.close (tie.spec list-requires told-requires same-length returns)

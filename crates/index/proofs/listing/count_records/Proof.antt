@@ -11,7 +11,7 @@ use Rattle.rules.specs.Scan.{leader}
 use Rattle.rules.proofs.Scan.{leader-zero}
 use Rattle.layout.proofs.Shapes.{bounds}
 use Rattle.segment.proofs.Parts.{span, part-length}
-use Rattle.index.proofs.Listings.{recordsTo, records-start, records-end, turn, count-turn}
+use Rattle.index.proofs.Listings.{recordsTo, records-start, records-end, Turn, turn, count-turn}
 use Rattle.index.proofs.listing.count_records.Statement.{statement}
 use Rattle.index.proofs.listing.count_records.Tie as tie
 
@@ -32,11 +32,18 @@ read-block-requires : tie.Need-read-block-requires Inv-loop μ-loop
 read-block-requires c κs =
     (c .before .before .before .before .pre, (rw (c .before .before .before .before .pre .0 .depth-read) (omega (arith, c .before .before .pow2 .ensures)), c .before .loop .inv .2))
 
+-- The turn of the loop whose block has been read.
+turn-at : (c : tie.After-read-block Inv-loop μ-loop)
+    → Turn (c .before .before .before .before .before .args .words .now) (c .before .before .before .pow2 .result) (c .before .before .loop .i) (c .read-block .result)
+turn-at c =
+    let p = c .before .before .before .before .before .pre in
+    turn (p .0) (p .1) _ (c .before .before .before .pow2 .ensures) _ (c .before .loop-test .taken) (c .before .before .loop .inv .2) _ (c .read-block .ensures)
+
 add-count-live : tie.Need-add-count-live Inv-loop μ-loop
-add-count-live c = let t = turn (c .before .before .before .before .before .pre .0) (c .before .before .before .before .before .pre .1) _ (c .before .before .before .pow2 .ensures) _ (c .before .loop-test .taken) (c .before .before .loop .inv .2) _ (c .read-block .ensures) in omega arith
+add-count-live c = let t = turn-at c in omega arith
 
 mul-count-live : tie.Need-mul-count-live Inv-loop μ-loop
-mul-count-live c = let t = turn (c .before .before .before .before .before .pre .0) (c .before .before .before .before .before .pre .1) _ (c .before .before .before .pow2 .ensures) _ (c .before .loop-test .taken) (c .before .before .loop .inv .2) _ (c .read-block .ensures) in omega arith
+mul-count-live c = let t = turn-at c in omega arith
 
 sub-count-live : tie.Need-sub-count-live Inv-loop μ-loop
 sub-count-live c = search needs
@@ -45,11 +52,11 @@ part-count-live-start : tie.Need-part-count-live-start Inv-loop μ-loop
 part-count-live-start c = search needs
 
 part-count-live-end : tie.Need-part-count-live-end Inv-loop μ-loop
-part-count-live-end c = let t = turn (c .before .before .before .before .before .pre .0) (c .before .before .before .before .before .pre .1) _ (c .before .before .before .pow2 .ensures) _ (c .before .loop-test .taken) (c .before .before .loop .inv .2) _ (c .read-block .ensures) in omega arith
+part-count-live-end c = let t = turn-at c in omega arith
 
 count-live-requires : tie.Need-count-live-requires Inv-loop μ-loop
 count-live-requires c κs =
-    let t = turn (c .before .before .before .before .before .before .pre .0) (c .before .before .before .before .before .before .pre .1) _ (c .before .before .before .before .pow2 .ensures) _ (c .before .before .loop-test .taken) (c .before .before .before .loop .inv .2) _ (c .before .read-block .ensures) in
+    let t = turn-at (c .before) in
     (rw (span (c .before .read-block .result .base)) (part-length _ _ (t .whole)), t .depth-small)
 
 add-total : tie.Need-add-total Inv-loop μ-loop
@@ -59,12 +66,12 @@ add-total c =
 
 loop-less : tie.Need-loop-less Inv-loop μ-loop
 loop-less c =
-    let t = turn (c .before .before .before .before .before .before .before .pre .0) (c .before .before .before .before .before .before .before .pre .1) _ (c .before .before .before .before .before .pow2 .ensures) _ (c .before .before .before .loop-test .taken) (c .before .before .before .before .loop .inv .2) _ (c .before .before .read-block .ensures) in
+    let t = turn-at (c .before .before) in
     omega (arith, t .onwards, c .before .before .before .loop-test .taken)
 
 loop-again : tie.Need-loop-again Inv-loop μ-loop
 loop-again c =
-    let t = turn (c .before .before .before .before .before .before .before .pre .0) (c .before .before .before .before .before .before .before .pre .1) _ (c .before .before .before .before .before .pow2 .ensures) _ (c .before .before .before .loop-test .taken) (c .before .before .before .before .loop .inv .2) _ (c .before .before .read-block .ensures) in (
+    let t = turn-at (c .before .before) in (
       t .inside,
       omega (arith, t .onwards, c .before .before .before .before .loop .inv .1, c .count-live .ensures .small),
       t .leads,

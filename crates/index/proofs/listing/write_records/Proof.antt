@@ -12,10 +12,10 @@ use Rattle.rules.specs.Listing.{wordsOf}
 use Rattle.rules.proofs.Scan.{leader-zero}
 use Rattle.stores.specs.Written.{Written}
 use Rattle.stores.proofs.Written.{written-none}
-use Rattle.segment.proofs.Records.{words-none, length-words}
+use Rattle.rules.proofs.Listing.{words-none, length-words}
 use Rattle.layout.proofs.Shapes.{bounds}
 use Rattle.segment.proofs.Parts.{span, part-length}
-use Rattle.index.proofs.Listings.{recordsTo, records-start, records-end, turn, write-turn}
+use Rattle.index.proofs.Listings.{recordsTo, records-start, records-end, Turn, turn, write-turn}
 use Rattle.index.proofs.listing.write_records.Statement.{statement}
 use Rattle.index.proofs.listing.write_records.Tie as tie
 
@@ -39,11 +39,18 @@ read-block-requires : tie.Need-read-block-requires Inv-loop μ-loop
 read-block-requires c κs =
     (c .before .before .before .before .before .pre .0, (rw (c .before .before .before .before .before .pre .0 .0 .depth-read) (omega (arith, c .before .before .pow2 .ensures)), c .before .loop .inv .1))
 
+-- The turn of the loop whose block has been read.
+turn-at : (c : tie.After-read-block Inv-loop μ-loop)
+    → Turn (c .before .before .before .before .before .before .args .words .now) (c .before .before .before .pow2 .result) (c .before .before .loop .i) (c .read-block .result)
+turn-at c =
+    let p = c .before .before .before .before .before .before .pre .0 in
+    turn (p .0) (p .1) _ (c .before .before .before .pow2 .ensures) _ (c .before .loop-test .taken) (c .before .before .loop .inv .1) _ (c .read-block .ensures)
+
 add-write-live : tie.Need-add-write-live Inv-loop μ-loop
-add-write-live c = let t = turn (c .before .before .before .before .before .before .pre .0 .0) (c .before .before .before .before .before .before .pre .0 .1) _ (c .before .before .before .pow2 .ensures) _ (c .before .loop-test .taken) (c .before .before .loop .inv .1) _ (c .read-block .ensures) in omega arith
+add-write-live c = let t = turn-at c in omega arith
 
 mul-write-live : tie.Need-mul-write-live Inv-loop μ-loop
-mul-write-live c = let t = turn (c .before .before .before .before .before .before .pre .0 .0) (c .before .before .before .before .before .before .pre .0 .1) _ (c .before .before .before .pow2 .ensures) _ (c .before .loop-test .taken) (c .before .before .loop .inv .1) _ (c .read-block .ensures) in omega arith
+mul-write-live c = let t = turn-at c in omega arith
 
 sub-write-live : tie.Need-sub-write-live Inv-loop μ-loop
 sub-write-live c = search needs
@@ -52,23 +59,23 @@ part-write-live-start : tie.Need-part-write-live-start Inv-loop μ-loop
 part-write-live-start c = search needs
 
 part-write-live-end : tie.Need-part-write-live-end Inv-loop μ-loop
-part-write-live-end c = let t = turn (c .before .before .before .before .before .before .pre .0 .0) (c .before .before .before .before .before .before .pre .0 .1) _ (c .before .before .before .pow2 .ensures) _ (c .before .loop-test .taken) (c .before .before .loop .inv .1) _ (c .read-block .ensures) in omega arith
+part-write-live-end c = let t = turn-at c in omega arith
 
 write-live-requires : tie.Need-write-live-requires Inv-loop μ-loop
 write-live-requires c κs =
-    let t = turn (c .before .before .before .before .before .before .before .before .pre .0 .0) (c .before .before .before .before .before .before .before .before .pre .0 .1) _ (c .before .before .before .before .before .pow2 .ensures) _ (c .before .before .before .loop-test .taken) (c .before .before .before .before .loop .inv .1) _ (c .before .before .read-block .ensures) in
+    let t = turn-at (c .before .before) in
     let i = c .before .before .before .before .loop .inv in
     rw (span (c .before .before .read-block .result .base))
     (part-length _ _ (t .whole), t .depth-small, omega (arith, t .room, i .2, i .3 .behind, c .before .before .before .before .before .before .before .before .pre .1, length-words (recordsTo (c .before .before .before .before .before .before .before .before .args .words .now) (c .before .before .before .before .loop .i))))
 
 loop-less : tie.Need-loop-less Inv-loop μ-loop
 loop-less c =
-    let t = turn (c .before .before .before .before .before .before .before .before .before .before .before .pre .0 .0) (c .before .before .before .before .before .before .before .before .before .before .before .pre .0 .1) _ (c .before .before .before .before .before .before .before .before .pow2 .ensures) _ (c .before .before .before .before .before .before .loop-test .taken) (c .before .before .before .before .before .before .before .loop .inv .1) _ (c .before .before .before .before .before .read-block .ensures) in
+    let t = turn-at (c .before .before .before .before .before) in
     omega (arith, t .onwards, c .before .before .before .before .before .before .loop-test .taken)
 
 loop-again : tie.Need-loop-again Inv-loop μ-loop
 loop-again c =
-    let t = turn (c .before .before .before .before .before .before .before .before .before .before .before .pre .0 .0) (c .before .before .before .before .before .before .before .before .before .before .before .pre .0 .1) _ (c .before .before .before .before .before .before .before .before .pow2 .ensures) _ (c .before .before .before .before .before .before .loop-test .taken) (c .before .before .before .before .before .before .before .loop .inv .1) _ (c .before .before .before .before .before .read-block .ensures) in
+    let t = turn-at (c .before .before .before .before .before) in
     let i = c .before .before .before .before .before .before .before .loop .inv in (
       t .inside,
       t .leads,

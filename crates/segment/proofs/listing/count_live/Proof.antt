@@ -10,19 +10,19 @@ use Rattle.rules.specs.Layout.{keyAt}
 use Rattle.rules.specs.Keys.{live}
 use Rattle.layout.specs.Blocks.{shared}
 use Rattle.segment.proofs.Words.{key-word}
-use Rattle.segment.proofs.Records.{recordsBelow, records-none, count-live, count-stale}
+use Rattle.segment.proofs.Records.{recordsBelow, records-none, count-live, count-stale, count-small}
 use Rattle.segment.proofs.listing.count_live.Statement.{statement}
 use Rattle.segment.proofs.listing.count_live.Tie as tie
 
 abbrev Inv-loop : tie.InvT-loop
 Inv-loop segment block count₀ slot₀ count slot =
-    (slot ≤ 64) × (count ≤ slot) × (count ≡ length (recordsBelow segment (block .«local_depth») (shared block) slot))
+    (slot ≤ 64) × (count ≡ length (recordsBelow segment (block .«local_depth») (shared block) slot))
 
 abbrev μ-loop : tie.MeasureT-loop
 μ-loop segment block count₀ slot₀ count slot = 64 - slot
 
 loop-holds : tie.Need-loop-holds Inv-loop μ-loop
-loop-holds c = (search needs, search needs, rw records-none)
+loop-holds c = (search needs, rw records-none)
 
 mul-is-live : tie.Need-mul-is-live Inv-loop μ-loop
 mul-is-live c = search needs
@@ -37,7 +37,10 @@ is-live-requires : tie.Need-is-live-requires Inv-loop μ-loop
 is-live-requires c κs = search needs
 
 add-count : tie.Need-add-count Inv-loop μ-loop
-add-count c = search needs
+add-count c =
+    let u = c .before .before .before .before .before .before .args in
+    let here = c .before .before .before .before .loop in
+    omega (arith, here .inv .1, count-small (u .segment .now) (u .block .«local_depth») (shared (u .block)) (here .slot))
 
 add-slot : tie.Need-add-slot Inv-loop μ-loop
 add-slot c = search needs
@@ -55,15 +58,16 @@ loop-again c =
     let test = c .before .is-live in
     let seen : live L bits (keyAt a 0 slot) ≡ test .result = rw (key-word a slot) (sym (test .ensures)) in (
       search needs,
-      ⊎-elim (λ w. omega arith) (λ w. omega arith) (c .if1 .came),
       ⊎-elim (λ w. omega (arith, count-live a L bits slot (seen ∙ w .0 .taken))) (λ w. omega (arith, count-stale a L bits slot (seen ∙ w .0 .left)))
           (c .if1 .came),
     )
 
 returns : tie.Need-returns Inv-loop μ-loop
 returns c =
+    let u = c .before .before .before .args in
     let all : c .before .loop .slot ≡ 64 = omega arith in
-    record { exact = rw all at (c .before .loop .inv .2); small = search needs }
+    let exact = rw all at (c .before .loop .inv .1) in
+    record { exact = exact; small = omega (arith, exact, count-small (u .segment .now) (u .block .«local_depth») (shared (u .block)) 64) }
 
 pub count-live-spec : {M : Type 1} → statement M
 count-live-spec =

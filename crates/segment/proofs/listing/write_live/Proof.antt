@@ -10,7 +10,8 @@ use Rattle.rules.specs.Listing.{wordsOf, liveRecord}
 use Rattle.stores.specs.Written.{Written}
 use Rattle.stores.proofs.Written.{written-none, written-append}
 use Rattle.segment.proofs.Words.{key-word, slot-holds}
-use Rattle.segment.proofs.Records.{recordsBelow, records-none, records-more, count-room, words-none, words-append, length-words}
+use Rattle.rules.proofs.Listing.{words-none, words-append, length-words}
+use Rattle.segment.proofs.Records.{recordsBelow, records-none, records-more, count-room}
 use Rattle.segment.proofs.listing.write_live.Statement.{statement}
 use Rattle.segment.proofs.listing.write_live.Tie as tie
 
