@@ -47,20 +47,9 @@ length-words (r ∷ rs) = let h : length (wordsOf rs) ≡ 2 * length rs = length
 
 -- ---- A done list
 
--- Where the tests of a list pass, its words fit.
-passed-fits : (a : List ℕ) (room : ℕ) → listTests a room ≡ none → length (wordsOf (records a)) ≤ room
-unfolding listTests directoryTests
-passed-fits a room e =
-    let t₁ = unless-none (validHeader a) NoStore _ e in
-    let t₂ = unless-none (leadersValid a (depth a) (segments a)) Broken _ (t₁ .1) in
-    let t₃ = unless-none (entriesAgree a (depth a)) Unmended _ (t₂ .1) in
-    let t₄ = unless-none (leb (2 * length (records a)) room) ShortList none (t₃ .1) in
-    omega (arith, length-words (records a), leb-true (2 * length (records a)) room (t₄ .0))
-
 -- A list of the index array a into the list array l has said n records and is done: it has left exactly the defined words in front.
 pub record ListDone (a l : List ℕ) (n : ℕ) : Type 0 where
   pub count : n ≡ length (records a)
-  pub fits : length (wordsOf (records a)) ≤ length l
   pub left : (step a l ListCall) .list ≡ atFront (wordsOf (records a)) l
 
 pub list-done : (a l : List ℕ) (n : ℕ) → (step a l ListCall) .outcome .reply ≡ done (n ∷ []) → ListDone a l n
@@ -68,7 +57,7 @@ unfolding step effect list behindTests
 list-done a l n says =
     let passed : listTests a (length l) ≡ none = writing-passed (listTests a (length l)) _ (n ∷ []) says in
     let said : done (length (records a) ∷ []) ≡ done (n ∷ []) = rw passed at says in
-    record { count = cc; fits = passed-fits a (length l) passed; left = rw passed refl }
+    record { count = cc; left = rw passed refl }
 
 -- ---- The list array, by any call
 
@@ -81,6 +70,16 @@ record Writes (room : ℕ) (listing : Bool) (w : Writing) : Type 0 where
 abbrev WritesBy : (room : ℕ) → (listing : Bool) → Effect → Type 0
 WritesBy room listing (changes allowance p) = Unit {0}
 WritesBy room listing (answers w) = Writes room listing w
+
+-- Where the tests of a list pass, its words fit.
+passed-fits : (a : List ℕ) (room : ℕ) → listTests a room ≡ none → length (wordsOf (records a)) ≤ room
+unfolding listTests directoryTests
+passed-fits a room e =
+    let t₁ = unless-none (validHeader a) NoStore _ e in
+    let t₂ = unless-none (leadersValid a (depth a) (segments a)) Broken _ (t₁ .1) in
+    let t₃ = unless-none (entriesAgree a (depth a)) Unmended _ (t₂ .1) in
+    let t₄ = unless-none (leb (2 * length (records a)) room) ShortList none (t₃ .1) in
+    omega (arith, length-words (records a), leb-true (2 * length (records a)) room (t₄ .0))
 
 effect-writes : (a : List ℕ) (room : ℕ) (c : Call) → WritesBy room (lists c) (effect a room c)
 unfolding effect list
