@@ -10,7 +10,7 @@ use Rattle.rules.specs.Mend.{mending, mend}
 use Rattle.rules.specs.Get.{get}
 use Rattle.rules.specs.Step.{effect, step}
 use Rattle.replies.proofs.Outcomes.{changed-complete, tested-none}
-use Rattle.rules.proofs.Listing.{list-done}
+use Rattle.rules.proofs.Listing.{done-list-leaves}
 use Rattle.runs.specs.Map.{mapSays}
 use Rattle.runs.specs.Run.{Point, claimed}
 use Rattle.history.specs.History.{CoveredPoint}
@@ -38,5 +38,5 @@ pub list-is-map : ListIsMap
 list-is-map p c calm l answer a′ l′ count performed says =
     let good = covered-good p c in
     let w = good .whole calm in
-    let d = list-done (p .array) l count (sym (performed .answered .reply) ∙ says) in
+    let d = done-list-leaves (p .array) l count (sym (performed .answered .reply) ∙ says) in
     (performed .list ∙ d .left, records-list-map (w .inv) (w .recovered) (good .zero-none), d .count)

@@ -52,9 +52,9 @@ pub record ListDone (a l : List ℕ) (n : ℕ) : Type 0 where
   pub count : n ≡ length (records a)
   pub left : (step a l ListCall) .list ≡ atFront (wordsOf (records a)) l
 
-pub list-done : (a l : List ℕ) (n : ℕ) → (step a l ListCall) .outcome .reply ≡ done (n ∷ []) → ListDone a l n
+pub done-list-leaves : (a l : List ℕ) (n : ℕ) → (step a l ListCall) .outcome .reply ≡ done (n ∷ []) → ListDone a l n
 unfolding step effect list behindTests
-list-done a l n says =
+done-list-leaves a l n says =
     let passed : listTests a (length l) ≡ none = writing-passed (listTests a (length l)) _ (n ∷ []) says in
     let said : done (length (records a) ∷ []) ≡ done (n ∷ []) = rw passed at says in
     record { count = cc; left = rw passed refl }
@@ -146,8 +146,8 @@ list-front a l n d =
 
 pub same-listing : SameListing
 same-listing a l m n k p q =
-    let d = list-done a l n p in
-    let e = list-done a m k q in
+    let d = done-list-leaves a l n p in
+    let e = done-list-leaves a m k q in
     record { count = d .count ∙ sym (e .count); words = list-front a l n d ∙ sym (list-front a m k e) }
 
 pub same-performed-listing : SamePerformedListing
