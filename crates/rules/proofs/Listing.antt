@@ -3,7 +3,7 @@
 use Prim.Native.Nat.{ℕ, _*_, _≤_}
 use native.Mathlib.Omega.{arith}
 use mathlib.Core.Path.{_≡_, refl, sym, ap, _∙_}
-use mathlib.Core.Bool.{Bool, false, true≢false}
+use mathlib.Core.Bool.{false, true≢false}
 use mathlib.Core.List.{List, [], _∷_, _++_}
 use mathlib.Core.Option.{none}
 use borrow.Author.Tests.{leb-true}
@@ -13,7 +13,7 @@ use Rattle.stores.specs.Written.{atFront}
 use Rattle.stores.proofs.Written.{at-front-words, at-front-length}
 use Rattle.replies.specs.declared.Refusal.the-variants.{NoStore, Broken, Unmended, ShortList}
 use Rattle.replies.specs.Replies.{done, isDone}
-use Rattle.replies.specs.Writing.{Writing, behindTests}
+use Rattle.replies.specs.Writing.{behindTests}
 use Rattle.replies.proofs.Writings.{writing-passed, writing-nothing, writing-fits}
 use Rattle.rules.specs.declared.Call.{Call}
 use Rattle.rules.specs.declared.Call.the-variants.{Format, Get, Put, Remove, Mend, List as ListCall}
@@ -21,7 +21,7 @@ use Rattle.rules.specs.Layout.{validHeader, depth, segments}
 use Rattle.rules.specs.Scan.{leadersValid, entriesAgree}
 use Rattle.rules.specs.Put.{directoryTests}
 use Rattle.rules.specs.Listing.{Record, records, wordsOf, listTests, list}
-use Rattle.rules.specs.Step.{Effect, changes, answers, effect, lists, carriedOut, wordsBy, step}
+use Rattle.rules.specs.Step.{Effect, effect, lists, carriedOut, wordsBy, step}
 use Rattle.rules.specs.SameListing.{SameListing, SamePerformedListing, ListingRepeats}
 use Rattle.rules.proofs.Put.{unless-none}
 
@@ -61,15 +61,15 @@ done-list-leaves a l n says =
 
 -- ---- The list array, by any call
 
--- What a call writes there, with `room` words lent: words that fit; none where it is not done, and none where it does not list.
-record Writes (room : ℕ) (listing : Bool) (w : Writing) : Type 0 where
-  pub fits : length (w .words) ≤ room
-  pub none-refused : isDone (w .reply) ≡ false → w .words ≡ []
-  pub none-apart : listing ≡ false → w .words ≡ []
+-- What a call on the index array a writes there, with `room` words lent: words that fit; none where it is not done, and none where
+-- it does not list.
+record Writes (a : List ℕ) (room : ℕ) (c : Call) : Type 0 where
+  pub fits : length (wordsBy (effect a room c)) ≤ room
+  pub none-refused : isDone ((carriedOut (effect a room c) a) .reply) ≡ false → wordsBy (effect a room c) ≡ []
+  pub none-apart : lists c ≡ false → wordsBy (effect a room c) ≡ []
 
-abbrev WritesBy : (room : ℕ) → (listing : Bool) → Effect → Type 0
-WritesBy room listing (changes allowance p) = Unit {0}
-WritesBy room listing (answers w) = Writes room listing w
+writes-nothing : (a : List ℕ) (room : ℕ) (c : Call) → wordsBy (effect a room c) ≡ [] → Writes a room c
+writes-nothing a room c e = record { fits = rw e (omega arith); none-refused = λ k. e; none-apart = λ k. e }
 
 -- Where the tests of a list pass, its words fit.
 passed-fits : (a : List ℕ) (room : ℕ) → listTests a room ≡ none → length (wordsOf (records a)) ≤ room
@@ -81,13 +81,13 @@ passed-fits a room e =
     let t₄ = unless-none (leb (2 * length (records a)) room) ShortList none (t₃ .1) in
     omega (arith, length-words (records a), leb-true (2 * length (records a)) room (t₄ .0))
 
-effect-writes : (a : List ℕ) (room : ℕ) (c : Call) → WritesBy room (lists c) (effect a room c)
+effect-writes : (a : List ℕ) (room : ℕ) (c : Call) → Writes a room c
 unfolding effect list
-effect-writes a room (Format D S allowance) = Prim.tt
-effect-writes a room (Get key) = record { fits = omega arith; none-refused = λ e. refl; none-apart = λ e. refl }
-effect-writes a room (Put key value allowance) = Prim.tt
-effect-writes a room (Remove key allowance) = Prim.tt
-effect-writes a room (Mend allowance) = Prim.tt
+effect-writes a room (Format D S allowance) = writes-nothing a room (Format D S allowance) refl
+effect-writes a room (Get key) = writes-nothing a room (Get key) refl
+effect-writes a room (Put key value allowance) = writes-nothing a room (Put key value allowance) refl
+effect-writes a room (Remove key allowance) = writes-nothing a room (Remove key allowance) refl
+effect-writes a room (Mend allowance) = writes-nothing a room (Mend allowance) refl
 effect-writes a room ListCall =
     record {
       fits = writing-fits (listTests a room) _ room (passed-fits a room);
@@ -96,32 +96,19 @@ effect-writes a room ListCall =
     }
 
 -- Its length stays: no word is written beyond it.
-carried-list-length : (e : Effect) (l : List ℕ) (listing : Bool) → WritesBy (length l) listing e → length (atFront (wordsBy e) l) ≡ length l
-carried-list-length (changes allowance p) l listing k = refl
-carried-list-length (answers w) l listing k = at-front-length (w .words) l (k .fits)
-
 pub list-array-length : (a l : List ℕ) (c : Call) → length ((step a l c) .list) ≡ length l
 unfolding step
-list-array-length a l c = carried-list-length (effect a (length l) c) l (lists c) (effect-writes a (length l) c)
+list-array-length a l c = at-front-length (wordsBy (effect a (length l) c)) l ((effect-writes a (length l) c) .fits)
 
 -- A reply that is not done leaves it as it was.
-carried-refused : (e : Effect) (a l : List ℕ) (listing : Bool) → WritesBy (length l) listing e → isDone ((carriedOut e a) .reply) ≡ false
-    → atFront (wordsBy e) l ≡ l
-carried-refused (changes allowance p) a l listing k e = refl
-carried-refused (answers w) a l listing k e = rw (k .none-refused e) refl
-
 pub refusal-keeps-list : (a l : List ℕ) (c : Call) → isDone ((step a l c) .outcome .reply) ≡ false → (step a l c) .list ≡ l
 unfolding step
-refusal-keeps-list a l c e = carried-refused (effect a (length l) c) a l (lists c) (effect-writes a (length l) c) e
+refusal-keeps-list a l c e = rw ((effect-writes a (length l) c) .none-refused e) refl
 
 -- So does a call that does not list; and it does not look at it.
-carried-apart : (e : Effect) (l : List ℕ) (listing : Bool) → WritesBy (length l) listing e → listing ≡ false → atFront (wordsBy e) l ≡ l
-carried-apart (changes allowance p) l listing k q = refl
-carried-apart (answers w) l listing k q = rw (k .none-apart q) refl
-
 pub list-array-kept : (a l : List ℕ) (c : Call) → lists c ≡ false → (step a l c) .list ≡ l
 unfolding step
-list-array-kept a l c q = carried-apart (effect a (length l) c) l (lists c) (effect-writes a (length l) c) q
+list-array-kept a l c q = rw ((effect-writes a (length l) c) .none-apart q) refl
 
 effect-apart : (a : List ℕ) (m n : ℕ) (c : Call) → lists c ≡ false → effect a m c ≡ effect a n c
 unfolding effect

@@ -10,7 +10,7 @@ use Rattle.rules.specs.declared.Call.the-variants.{List as ListCall}
 use Rattle.rules.specs.Step.{step, Performed}
 
 -- One list says n records and leaves l, the other says k and leaves m: as many, and the same words in front.
-pub record SameList (n : ℕ) (l : List ℕ) (k : ℕ) (m : List ℕ) : Type 0 where
+pub record SameRecords (n : ℕ) (l : List ℕ) (k : ℕ) (m : List ℕ) : Type 0 where
   pub count : n ≡ k
   pub words : take (2 * n) l ≡ take (2 * k) m
 
@@ -19,10 +19,10 @@ abbrev pub SameListing : Type 0
 SameListing =
     (a l m : List ℕ) (n k : ℕ)
     → (step a l ListCall) .outcome .reply ≡ done (n ∷ []) → (step a m ListCall) .outcome .reply ≡ done (k ∷ [])
-    → SameList n ((step a l ListCall) .list) k ((step a m ListCall) .list)
+    → SameRecords n ((step a l ListCall) .list) k ((step a m ListCall) .list)
 
 -- A list that was performed on the index array a, said n records, and left l′ in its list array and b in the index array.
-pub record Lists (a : List ℕ) (n : ℕ) (b l′ : List ℕ) : Type 0 where
+pub record ListPerformed (a : List ℕ) (n : ℕ) (b l′ : List ℕ) : Type 0 where
   pub list : List ℕ
   pub answer : Answer
   pub performed : Performed ListCall a list answer b l′
@@ -30,8 +30,12 @@ pub record Lists (a : List ℕ) (n : ℕ) (b l′ : List ℕ) : Type 0 where
 
 -- Two performed lists of one index array, by whichever programs.
 abbrev pub SamePerformedListing : Type 0
-SamePerformedListing = (a : List ℕ) (n : ℕ) (b l′ : List ℕ) (k : ℕ) (c m′ : List ℕ) → Lists a n b l′ → Lists a k c m′ → SameList n l′ k m′
+SamePerformedListing =
+    (a : List ℕ) (n : ℕ) (b l′ : List ℕ) (k : ℕ) (c m′ : List ℕ) → ListPerformed a n b l′ → ListPerformed a k c m′
+    → SameRecords n l′ k m′
 
 -- A list, and another of what the first left.
 abbrev pub ListingRepeats : Type 0
-ListingRepeats = (a : List ℕ) (n : ℕ) (b l′ : List ℕ) (k : ℕ) (c m′ : List ℕ) → Lists a n b l′ → Lists b k c m′ → SameList n l′ k m′
+ListingRepeats =
+    (a : List ℕ) (n : ℕ) (b l′ : List ℕ) (k : ℕ) (c m′ : List ℕ) → ListPerformed a n b l′ → ListPerformed b k c m′
+    → SameRecords n l′ k m′
