@@ -127,12 +127,12 @@ jobsSet =
 small : List ℕ
 small = left (formatted 520 2 4) jobsSet
 
--- The same with D = 3, its directory at depth 3 and every entry the same; and entry i in it made to name segment s.
-eight : (i s : ℕ) → List ℕ
-eight i s =
+-- The same with D = 4, S = 8, its directory at depth 4 and every entry the same; and entry i in it made to name segment s.
+deep : (i s : ℕ) → List ℕ
+deep i s =
     apply
-    (store 0 0x5041474500080303 ∷ each (λ e. store (8 + e) 0 ∷ []) 8 ++ (store (8 + i) s ∷ []))
-    (left (formatted 1040 3 8) jobsSet)
+    (store 0 0x5041474600080404 ∷ each (λ e. store (16 + e) 0 ∷ []) 16 ++ (store (16 + i) s ∷ []))
+    (left (formatted 1056 4 8) jobsSet)
 
 -- ---- The table
 
@@ -181,7 +181,7 @@ samples =
     ∷ made (reads 1 13 4096) (refused 12) 0
     ∷ made (sets 9999 12 4096 1 9) (refused 13) 0
     ∷ [])
-    (store 128 655347711 ∷ store 129 3 ∷ store 8 0 ∷ store 9 9 ∷ [])
+    (store 104 655347711 ∷ store 105 3 ∷ store 40 0 ∷ store 41 9 ∷ [])
     -- and ahead of all refusals of the index; behind them 1, as the index says
     ∷ calls []
     (made (reads 0 1 1) (refused 11) 0
@@ -191,7 +191,7 @@ samples =
     ∷ [])
     []
     -- where jobs stand: key, then value
-    ∷ calls small [] (store 8 132780032 ∷ store 10 132825088 ∷ store 11 65536 ∷ store 80 132845577 ∷ store 82 132780041 ∷ store 130 132784127 ∷ [])
+    ∷ calls small [] (store 40 132780032 ∷ store 8 132825088 ∷ store 9 65536 ∷ store 112 132845577 ∷ store 114 132780041 ∷ store 72 132784127 ∷ [])
     -- months and numbers rise; a buffer exactly long enough, one byte short, and none
     ∷ prints small
     (wanted 2026 98 (done (98 ∷ [])) year2026
@@ -204,13 +204,13 @@ samples =
     ∷ refusing four 0 1000 11
     ∷ refusing four 10000 0 11
     ∷ [])
-    -- entry 3, to which only numbers such as 96 lead, names no segment: the year prints, and with 96 it does not
-    ∷ prints (eight 3 99)
+    -- entry 3, to which numbers such as 64 lead and none of the four, names no segment: the year prints, and with 64 it does not
+    ∷ prints (deep 3 99)
     (wanted 2026 98 (done (98 ∷ [])) year2026
-    ∷ refusing (96 ∷ []) 2026 1000 3
+    ∷ refusing (64 ∷ []) 2026 1000 3
     ∷ [])
-    -- entry 7, to which 4095 leads: 3, also where the lines would not fit
-    ∷ prints (eight 7 8)
+    -- entry 14, to which Jan 4095 leads: 3, also where the lines would not fit
+    ∷ prints (deep 14 8)
     (refusing four 2026 1000 3
     ∷ refusing four 2026 0 3
     ∷ refusing four 0 0 11
@@ -230,5 +230,5 @@ samples =
     ∷ []
 
 pub samples-pass : allPass samples ≡ true
-unfolding allPass samples formatted jobsSet small eight four year2026 wanted refusing made startedBy parts nonempty linesOf fieldsOf isDigit allDigits valueFrom number spelled decimal validYear validMonth validNumber jobKey yearTests jobTests behind onJob monthName lineOf jobLine textOf monthLookups yearLookups jobFound jobsIn firstRefusal refusedIn fitted behindLookups behindTests printOf printOver monthFrom monthNamed jobOf jobOfFields inFront jobsOfLines jobsRead
+unfolding allPass samples formatted jobsSet small deep four year2026 wanted refusing made startedBy parts nonempty linesOf fieldsOf isDigit allDigits valueFrom number spelled decimal validYear validMonth validNumber jobKey yearTests jobTests behind onJob monthName lineOf jobLine textOf monthLookups yearLookups jobFound jobsIn firstRefusal refusedIn fitted behindLookups behindTests printOf printOver monthFrom monthNamed jobOf jobOfFields inFront jobsOfLines jobsRead
 samples-pass = refl

@@ -13,7 +13,7 @@ use Rattle.layout.specs.Entries.{entrySaid, entryOf}
 
 -- Word 0 with D = 2 and S = 1 asks 136 words: one less is no store (refusal 1), as is an array of no words.
 pub headers : _≡_ {A = List Said}
-    (headerOf (0x5041474500010201 ∷ replicate 135 0) ∷ headerOf (0x5041474500010201 ∷ replicate 134 0) ∷ headerOf [] ∷ headerSaid NotValid ∷ [])
+    (headerOf (0x5041474600010201 ∷ replicate 135 0) ∷ headerOf (0x5041474600010201 ∷ replicate 134 0) ∷ headerOf [] ∷ headerSaid NotValid ∷ [])
     (done (1 ∷ 2 ∷ 1 ∷ []) ∷ refused 1 ∷ refused 1 ∷ refused 1 ∷ [])
 unfolding headerOf validHeader validShape wordsFor depthIn maxDepthIn segmentsIn markIn
 headers = refl

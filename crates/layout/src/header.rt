@@ -23,7 +23,7 @@ const SEGMENTS_VALUES: u64 = 65536;
 const SEGMENTS_UNIT: u64 = 65536;
 
 // The mark in bits 32 to 63 of word 0.
-const MARK: u64 = 0x50414745;
+const MARK: u64 = 0x50414746;
 
 // The weight of the lowest bit of the mark in word 0.
 const MARK_UNIT: u64 = 4294967296;

@@ -9,6 +9,9 @@ ghost use Rattle.rules.specs.Keys.{bucket, directoryBits, firstBits, blockBits}
 // the last one being 0.
 const REVERSED: u64 = 0xF7B3D591E6A2C480;
 
+// The weight of the lowest bit of a key that folding brings down to its low ones.
+const FOLD_UNIT: u64 = 1024;
+
 // A key's bucket, and its directory bits as one number, the first bit lowest.
 pub struct OpenKey {
     pub bucket: usize,
@@ -22,13 +25,14 @@ pub struct Block {
     pub bits: u64,
 }
 
-// Opens a key.
+// Opens a key: bucket and directory bits are those of the folded key.
 pub fn open_key(key: u64) -> OpenKey
     ensures { λ r. ⌜ (r .bucket ≡ bucket key) × (r .bits ≡ directoryBits key) ⌝ }
 {
+    let folded = key ^ (key / FOLD_UNIT);
     OpenKey {
-        bucket: key as usize % BUCKETS,
-        bits: key / BUCKETS as u64,
+        bucket: folded as usize % BUCKETS,
+        bits: folded / BUCKETS as u64,
     }
 }
 

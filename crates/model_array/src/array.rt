@@ -3,8 +3,8 @@ use crate::words::Cells;
 use crate::words::word_at;
 ghost use Prim.Native.Nat.{_≤_};
 
-// Document 01's mark in bits 32 to 63 of word 0, and the weights of the fields.
-const MARK: u64 = 0x50414745;
+// Document 02's mark in bits 32 to 63 of word 0, and the weights of the fields.
+const MARK: u64 = 0x50414746;
 
 const MARK_UNIT: u64 = 4294967296;
 

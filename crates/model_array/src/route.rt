@@ -1,4 +1,4 @@
-// The way from a key to its index and its slots.
+// The way from a key to its index and its slots, and from a folded key back to the key.
 use crate::array::SLOTS;
 use crate::array::power;
 use crate::blocks::Block;
@@ -9,9 +9,25 @@ const BUCKETS: u64 = 16;
 
 const BUCKET_SLOTS: u32 = 4;
 
-// Route bit `number` of a key, the first being 0: bit 4 of the key and those above.
+// What a key is divided by for its folded key.
+const FOLD: u64 = 1024;
+
+// Document 02's folded key: the exclusive or, bit by bit, of the key and floor(key / 1,024).
+fn folded(key: u64) -> u64 {
+    key ^ (key / FOLD)
+}
+
+// The key whose folded key is this number, for a test that chooses where its keys go: the exclusive or of
+// the number and of its quotients by 1,024, by its square and so on, two, four and then all of them.
+pub fn unfolded(number: u64) -> u64 {
+    let two = number ^ (number / FOLD);
+    let four = two ^ (two >> 20);
+    four ^ (four >> 40)
+}
+
+// Route bit `number` of a key, the first being 0: bit 4 of the folded key and those above.
 pub fn route_bit(key: u64, number: u32) -> u64 {
-    key / BUCKETS / power(number) as u64 % 2
+    folded(key) / BUCKETS / power(number) as u64 % 2
 }
 
 // The key's index in the directory of this depth: the weights of its route bits that are 1, the first
@@ -42,6 +58,6 @@ pub fn is_live(key: u64, block: Block) -> bool {
 // Slot `number` of a key's window, the first being 0. The slots of four buckets on, bucket 0
 // following 15, are sixteen slots on, slot 0 following 63.
 pub fn window_slot(key: u64, number: u32) -> u32 {
-    let first = (key % BUCKETS) as u32 * BUCKET_SLOTS;
+    let first = (folded(key) % BUCKETS) as u32 * BUCKET_SLOTS;
     (first + number % SLOTS) % SLOTS
 }

@@ -5,7 +5,7 @@ use model_array::words::WORDS;
 use model_array::words::set_word;
 ghost use Prim.Native.Nat.{_≤_};
 
-// The weight of a key's own number in it, above every bit that the index reads.
+// The weight of a key's own number in its folded key, above every bit that the index reads.
 const OWN_UNIT: u64 = 4294967296;
 
 // The number behind this one. From a number other than 0 it is never 0.
@@ -20,9 +20,9 @@ pub fn from_seed(seed: u64) -> u64 {
     next(next(next(seed % 4294967296 * 2654435769 + 88172645463325252)))
 }
 
-// A key with no bit set that the index reads: number + 1, above those bits. It keeps keys apart that are
-// alike below.
-pub fn own_key(number: u64) -> u64
+// A folded key with no bit set that the index reads: number + 1, above those bits. It keeps keys apart
+// that are alike below.
+pub fn own_part(number: u64) -> u64
     ensures { λ r. ⌜ r ≤ 281474976710656 ⌝ }
 {
     (number % 65536 + 1) * OWN_UNIT

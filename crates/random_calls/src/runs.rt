@@ -1,9 +1,10 @@
 // Random runs: a run's keys, which stand in the plain table, and its calls.
 use crate::generator::from_seed;
 use crate::generator::next;
-use crate::generator::own_key;
+use crate::generator::own_part;
 use index_model::ALL_STORES;
 use index_model::Call;
+use model_array::route::unfolded;
 use model_array::words::Cells;
 use model_array::words::WORDS;
 use model_array::words::set_word;
@@ -16,11 +17,11 @@ pub const KEYS: usize = 48;
 
 pub const ENTRY_WORDS: usize = 3;
 
-// A key of a run. By the seed the keys are running numbers; of a few buckets, with any route bits; of
-// one bucket and few routes, so that segments get deep; or half of one route and half spread, so that
-// shallow blocks stand in a deep directory.
-fn key_for(seed: u64, number: u64, roll: u64) -> u64 {
-    let own = own_key(number);
+// The folded key of a key of a run. By the seed they are running numbers; of a few buckets, with any
+// route bits; of one bucket and few routes, so that segments get deep; or half of one route and half
+// spread, so that shallow blocks stand in a deep directory.
+fn folded_for(seed: u64, number: u64, roll: u64) -> u64 {
+    let own = own_part(number);
     match seed % 4 {
         0 => number % 65536 + 1,
         1 => own + roll % 3 + roll / 16 % 256 * 16,
@@ -31,6 +32,11 @@ fn key_for(seed: u64, number: u64, roll: u64) -> u64 {
             own + roll % 2 + 16 + roll / 16 % 64 * 32
         },
     }
+}
+
+// A key of a run.
+fn key_for(seed: u64, number: u64, roll: u64) -> u64 {
+    unfolded(folded_for(seed, number, roll))
 }
 
 // Draws the keys of a run, each without a value.

@@ -1,4 +1,5 @@
--- Laws of document 01's 'From a key to its slots': directory bits, index, blocks, live keys, probe window.
+-- Laws of document 01's 'From a key to its slots' and document 02's wish 4: the folded key, directory bits, index, blocks, live
+-- keys, probe window.
 -- This file alone opens the definitions of `specs/Keys.antt`.
 -- Assumes nothing.
 use mathlib.Core.Path.{_≡_, refl, sym, ap, _∙_}
@@ -10,12 +11,58 @@ use native.Mathlib.Nat.{add-zero, eq-or-lt-of-le, le-of-suc-le-suc, pow-succ', s
 use native.Mathlib.Numerals.{one-add}
 use native.Mathlib.Omega.{arith}
 use borrow.Author.Tests.{eqb-true, eqb-false, not-true, eq-eqb, ne-eqb}
+use lib.Arith.{bin-ind}
+use lib.Bits.{bitXor, xor-add-and, xor-shr, xor-zero-r, xor-lt}
 use lib.Dec.{eqb}
 use lib.Pow.{pow-pos, pow-add, mod-pow-add, mod-mod-pow, field, pow-mono}
 use Rattle.stores.specs.Lists.{each, allBelow}
 use Rattle.stores.proofs.Tests.{and-left, and-right, and-true, same-test}
 use Rattle.stores.proofs.Lists.{mem-each, each-mem, all-at}
-use Rattle.rules.specs.Keys.{bucket, directoryBits, bitOf, firstBits, bit, index, width, blockBits, blockStart, live, windowBucket, slotsOf, window}
+use Rattle.rules.specs.Keys.{folded, bucket, directoryBits, bitOf, firstBits, bit, index, width, blockBits, blockStart, live, windowBucket, slotsOf, window}
+
+-- ---- The folded key
+
+pub folded-xor : (key : ℕ) → folded key ≡ bitXor key (key / 1024)
+unfolding folded
+folded-xor key = refl
+
+-- The folded key of a key of 64 bits has 64 bits.
+pub folded-lt : (key : ℕ) → key < 2 ^ 64 → folded key < 2 ^ 64
+folded-lt key h = rw folded-xor (xor-lt 64 key (key / 1024) h (omega arith))
+
+-- A key below 1,024 is its own folded key.
+pub folded-small : (key : ℕ) → key < 1024 → folded key ≡ key
+folded-small key h =
+    let none : key / 1024 ≡ 0 = omega arith in
+    rw (folded-xor, none) (xor-zero-r key)
+
+-- The exclusive or with one number keeps two numbers apart.
+xor-cancel : (c a b : ℕ) → bitXor a c ≡ bitXor b c → a ≡ b
+xor-cancel =
+    bin-ind (λ (c : ℕ). (a b : ℕ) → bitXor a c ≡ bitXor b c → a ≡ b) (λ a b e. sym (xor-zero-r a) ∙ e ∙ xor-zero-r b)
+    (λ c ih a b e.
+    let halves : a / 2 ≡ b / 2 = ih (a / 2) (b / 2) (sym (xor-shr a c 1) ∙ ap (λ (n : ℕ). n / 2) e ∙ xor-shr b c 1) in
+    omega (arith, e, halves, xor-add-and a c, xor-add-and b c))
+
+-- Above its ten low bits, the folded key is that of what the key is there.
+folded-high : (key : ℕ) → folded key / 1024 ≡ folded (key / 1024)
+unfolding folded
+folded-high key = xor-shr key (key / 1024) 10
+
+folded-apart : (n k o : ℕ) → k ≤ n → o ≤ n → folded k ≡ folded o → k ≡ o
+folded-apart zero k o hk ho e = omega arith
+folded-apart (suc n) k o hk ho e =
+    let high : k / 1024 ≡ o / 1024 =
+    folded-apart n (k / 1024) (o / 1024) (omega arith) (omega arith) (sym (folded-high k) ∙ ap (λ (f : ℕ). f / 1024) e ∙ folded-high o)
+    in
+    xor-cancel (o / 1024) k o (ap (bitXor k) (sym high) ∙ sym (folded-xor k) ∙ e ∙ folded-xor o)
+
+-- No two keys have the same folded key; and 0, which has 0, is alone in that.
+pub folded-injective : (k o : ℕ) → folded k ≡ folded o → k ≡ o
+folded-injective k o = folded-apart (k + o) k o (omega arith) (omega arith)
+
+pub folded-zero : (key : ℕ) → folded key ≡ 0 → key ≡ 0
+folded-zero key e = folded-injective key 0 (e ∙ sym (folded-small 0 (omega arith)))
 
 -- ---- Directory bits as an index
 
@@ -263,7 +310,7 @@ window-slot key b j h k =
 
 -- ---- For the code
 
-pub bucket-mod : (key : ℕ) → bucket key ≡ key % 16
+pub bucket-mod : (key : ℕ) → bucket key ≡ folded key % 16
 unfolding bucket
 bucket-mod key = refl
 
@@ -279,9 +326,17 @@ pub window-each : (key : ℕ) → window key ≡ each (λ b. slotsOf (windowBuck
 unfolding window
 window-each key = refl
 
-pub bits-div : (key : ℕ) → directoryBits key ≡ key / 16
+pub bits-div : (key : ℕ) → directoryBits key ≡ folded key / 16
 unfolding directoryBits
 bits-div key = refl
+
+-- Of a key below 1,024 bucket and directory bits are those of document 01, so that its states b to h, which have no other keys, are
+-- as they were before document 02's wish 4.
+pub bucket-small : (key : ℕ) → key < 1024 → bucket key ≡ key % 16
+bucket-small key h = rw (bucket-mod, folded-small key h)
+
+pub bits-small : (key : ℕ) → key < 1024 → directoryBits key ≡ key / 16
+bits-small key h = rw (bits-div, folded-small key h)
 
 -- Directory bit number i of a key by a shift.
 pub bit-shift : (key i : ℕ) → bit key i ≡ directoryBits key / 2 ^ i % 2

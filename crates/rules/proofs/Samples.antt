@@ -11,14 +11,17 @@ use Rattle.stores.specs.Store.{Store, store}
 use Rattle.rules.specs.declared.Call.{Call}
 use Rattle.rules.specs.declared.Call.the-variants.{Format, Get, Put, Remove, Mend}
 use Rattle.replies.specs.Replies.{Said, done, absent, refused}
-use Rattle.rules.proofs.Table.{Names, Lookup, Row, state, listing, allPass}
+use Rattle.rules.proofs.Table.{Names, Lookup, Row, buckets, indexed, state, listing, allPass}
 use Rattle.rules.proofs.States.{F, P, fill, stands, names, page, missing, pages, row, sixteen, P263}
 
 -- ---- Damage to an index of D = 2, S = 4
 
--- Word 0 with present depth G.
+-- Word 0 with these G, D and S; and with present depth G.
+abbrev first : (G D S : ℕ) → Store
+first G D S = store 0 (0x5041474600000000 + 0x10000 * S + 0x100 * D + G)
+
 abbrev present : (G : ℕ) → Store
-present G = store 0 (0x5041474500040200 + G)
+present G = first G 2 4
 
 -- Entry i of the directory of depth 1 or 2, which start at words 2 and 4, names segment s with local depth L.
 abbrev entry₁ : (i s L : ℕ) → Store
@@ -35,18 +38,31 @@ four s₀ L₀ s₁ L₁ s₂ L₂ s₃ L₃ = present 2 ∷ entry₂ 0 s₀ L�
 abbrev slot : (j key : ℕ) → List Store
 slot j key = store (8 + 2 * j) key ∷ store (9 + 2 * j) (10 * key) ∷ []
 
+-- What makes a store of before document 02's wish 4: the old mark; with page 7 in it.
+abbrev oldStore : List Store
+oldStore = store 0 0x5041474500040200 ∷ slot 28 7
+
 -- Slots 28 to 43 of segment 0 with sixteen keys whose first directory bit is 0.
 abbrev fullLeft : List Store
 fullLeft = each (λ i. slot (28 + i) (7 + 32 * i)) 16
 
--- An index of depth 1 with two blocks, in which n slots of segment 0 from 28 on have keys of the right block: stale there.
+-- An index of depth 1 with two blocks, in which n slots of segment 0 from 28 on have the keys `from`, `from` + 32 and so on.
+abbrev twoBlocks : (from n : ℕ) → List Store
+twoBlocks from n = present 1 ∷ entry₁ 0 0 1 ∷ entry₁ 1 1 1 ∷ each (λ i. slot (28 + i) (from + 32 * i)) n
+
+-- With keys of the right block, which are stale in segment 0.
 abbrev staleLeft : (n : ℕ) → List Store
-staleLeft n = present 1 ∷ entry₁ 0 0 1 ∷ entry₁ 1 1 1 ∷ each (λ i. slot (28 + i) (23 + 32 * i)) n
+staleLeft n = twoBlocks 23 n
 
 -- Known state e: the split has moved eight pages to segment 1 and left their records in slots 29, 31, .. 43 of segment 0, where
 -- 263 took the first; slots 44 to 47 are empty.
 abbrev moved : List Call
 moved = sixteen 4 ++ (P263 10000 ∷ [])
+
+-- Sixteen pages in the window of key 7. The last eight, 16391 and on, have bit 14 and not bit 4: of their folded keys the first
+-- directory bit is 1, of the keys as they stand it would be 0.
+abbrev sheets : List Call
+sheets = F 4 ∷ fill 7 32 8 ++ fill 16391 32 8
 
 -- A call on an index with damage.
 abbrev damaged : List Store → Call → Said → (made : ℕ) → List Store → List Names → List Lookup → Row
@@ -71,7 +87,7 @@ pageWords first by n = each (λ i. (first + by * i) ∷ 10 * (first + by * i) �
 -- An index of D = 3, S = 4 with blocks of depth 3, 3, 2 and 1, from the left, made by three splits: they name segments 0, 3, 2
 -- and 1. Sixteen pages stand in the first, then two, one and two.
 abbrev threeDepths : List Call
-threeDepths = Format 3 4 10000 ∷ fill 7 128 16 ++ (P 2055 ∷ P 67 ∷ P 449 ∷ P 37 ∷ P 146 ∷ P 25 ∷ [])
+threeDepths = Format 3 4 10000 ∷ fill 7 128 8 ++ fill 1030 128 8 ++ (P 2053 ∷ P 67 ∷ P 449 ∷ P 37 ∷ P 146 ∷ P 25 ∷ [])
 
 -- In an index of D = 3: entry i of the directory of depth 3, which starts at word 8, and the page of a key in slot j of segment s.
 abbrev entry₃ : (i s L : ℕ) → Store
@@ -84,7 +100,7 @@ slotOf s j key = store (16 + 128 * s + 2 * j) key ∷ store (17 + 128 * s + 2 * 
 -- it is stale there.
 abbrev mixedOrders : List Store
 mixedOrders =
-    store 0 0x5041474500040303 ∷ entry₃ 0 2 1 ∷ entry₃ 1 2 1 ∷ entry₃ 2 2 1 ∷ entry₃ 3 2 1 ∷ entry₃ 4 0 2 ∷ entry₃ 5 0 2 ∷ entry₃ 6 3 3
+    first 3 3 4 ∷ entry₃ 0 2 1 ∷ entry₃ 1 2 1 ∷ entry₃ 2 2 1 ∷ entry₃ 3 2 1 ∷ entry₃ 4 0 2 ∷ entry₃ 5 0 2 ∷ entry₃ 6 3 3
     ∷ entry₃ 7 1 3
     ∷ slotOf 2 4 1025 ++ slotOf 2 12 19 ++ slotOf 2 20 5 ++ slotOf 0 0 80 ++ slotOf 0 63 31 ++ slotOf 3 8 306 ++ slotOf 3 9 50 ++ slotOf 1 1 112
 
@@ -150,12 +166,38 @@ samples =
     ∷ damaged (four 0 2 1 1 1 1 2 2) (P 7) (refused 3) 0 [] [] []
     -- 1 before 2: no mark; G above D; S above 2^D; D above 12; an array too short by one word; an array of no words
     ∷ damaged (store 0 0 ∷ []) (P 0) (refused 1) 0 [] [] (record { key = 0; said = refused 1 } ∷ [])
-    ∷ damaged (store 0 0x5041474500040203 ∷ []) (P 7) (refused 1) 0 [] [] []
-    ∷ damaged (store 0 0x5041474500050200 ∷ []) (Mend 10000) (refused 1) 0 [] [] []
-    ∷ unlisted (F 4 ∷ []) (store 0 0x5041474500040d00 ∷ []) 1 2
-    ∷ state 519 [] (store 0 0x5041474500040200 ∷ []) (Remove 7 10000) (refused 1) 0 [] [] []
+    ∷ damaged (first 3 2 4 ∷ []) (P 7) (refused 1) 0 [] [] []
+    ∷ damaged (first 0 2 5 ∷ []) (Mend 10000) (refused 1) 0 [] [] []
+    ∷ unlisted (F 4 ∷ []) (first 0 13 4 ∷ []) 1 2
+    ∷ state 519 [] (first 0 2 4 ∷ []) (Remove 7 10000) (refused 1) 0 [] [] []
     ∷ row 0 [] (P 7) (refused 1) 0 [] [] []
     ∷ row 0 [] (F 4) (refused 9) 0 [] [] []
+    -- the old mark: 1 from every call but format, which makes a new store of it
+    ∷ damaged oldStore (Get 7) (refused 1) 0 [] [] []
+    ∷ damaged oldStore (P 7) (refused 1) 0 [] [] []
+    ∷ damaged oldStore (Remove 7 10000) (refused 1) 0 [] [] []
+    ∷ damaged oldStore (Mend 10000) (refused 1) 0 [] [] []
+    ∷ unlisted (F 4 ∷ []) oldStore 1 2
+    ∷ damaged oldStore (F 4) (done []) 67 (present 0 ∷ stands 64 0 ∷ []) (names 0 0 ∷ []) (missing 7 ∷ [])
+    -- the folded key: 1031 and 1030 fold to one another, a key below 1,024 to itself, the largest to one with its ten highest bits
+    ∷ buckets 1031 (6 ∷ 7 ∷ 8 ∷ 9 ∷ [])
+    ∷ buckets 1030 (7 ∷ 8 ∷ 9 ∷ 10 ∷ [])
+    ∷ buckets 1023 (15 ∷ 0 ∷ 1 ∷ 2 ∷ [])
+    ∷ buckets 18446744073709551615 (0 ∷ 1 ∷ 2 ∷ 3 ∷ [])
+    ∷ indexed 12 1023 4032
+    ∷ indexed 12 18446744073709551615 0
+    -- directory bits 0 and 1 are bits 4 and 5, each with the bit ten above
+    ∷ indexed 2 16384 2
+    ∷ indexed 2 32768 1
+    ∷ indexed 2 16400 0
+    -- seventeen sheets in steps of 1,024: the slots hold the keys themselves
+    ∷ row 520 (F 4 ∷ fill 1024 1024 16) (P 17408) (done []) 2 (stands 8 16384 ∷ stands 16 1024 ∷ stands 18 17408 ∷ stands 128 15360 ∷ []) (names 0 0 ∷ []) (pages 1024 1024 17)
+    -- stored keys are live by their folded keys: in the search for a slot, of which the window has none but stale ones
+    ∷ damaged (twoBlocks 16391 16) (P 7) (done []) 2 (stands 64 7 ∷ stands 65 70 ∷ stands 66 16423 ∷ []) [] (page 7 ∷ [])
+    -- in a split, which moves the last eight, and in the listing behind it
+    ∷ row 520 sheets (P263 10000) (done []) 79 (stands 208 16391 ∷ stands 209 163910 ∷ stands 192 0 ∷ stands 80 263 ∷ []) (names 0 1 ∷ names 1 1 ∷ [])
+    (page 263 ∷ pages 7 32 8 ++ pages 16391 32 8)
+    ∷ listed (sheets ++ (P263 10000 ∷ [])) [] (done (17 ∷ [])) (pageWords 7 32 9 ++ pageWords 16391 32 8) 2
     -- a get of key 0
     ∷ row 520 (F 4 ∷ []) (Get 0) (refused 2) 0 [] [] []
     -- a list has every live record once, no stale one, needs two words for each, and leaves the words behind them
@@ -168,7 +210,7 @@ samples =
     ∷ unlisted moved [] 10 33
     -- block by block from the left, which is not the order of the segment numbers
     ∷ listed threeDepths [] (done (21 ∷ []))
-    (pageWords 7 128 16 ++ (449 ∷ 4490 ∷ 67 ∷ 670 ∷ 37 ∷ 370 ∷ 146 ∷ 1460 ∷ 25 ∷ 250 ∷ []))
+    (pageWords 7 128 8 ++ pageWords 1030 128 8 ++ (449 ∷ 4490 ∷ 67 ∷ 670 ∷ 37 ∷ 370 ∷ 146 ∷ 1460 ∷ 25 ∷ 250 ∷ []))
     1
     ∷ listed (Format 3 4 10000 ∷ []) mixedOrders (done (7 ∷ []))
     (1025 ∷ 10250 ∷ 5 ∷ 50 ∷ 80 ∷ 800 ∷ 31 ∷ 310 ∷ 306 ∷ 3060 ∷ 50 ∷ 500 ∷ 112 ∷ 1120 ∷ [])

@@ -12,7 +12,7 @@ use Rattle.stores.specs.Plan.{Outcome, cut}
 use Rattle.rules.specs.declared.Call.{Call}
 use Rattle.rules.specs.declared.Call.the-variants.{List as ListCall}
 use Rattle.rules.specs.Layout.{depthIn, maxDepthIn, segmentsIn, markIn, header, depth, wordsFor, validShape, validHeader, entryAddress, entryAt, segmentOf, localDepth, entry, segmentAddress}
-use Rattle.rules.specs.Keys.{bucket, directoryBits, bitOf, firstBits, bit, index, width, blockBits, blockStart, live, windowBucket, slotsOf, window}
+use Rattle.rules.specs.Keys.{folded, bucket, directoryBits, bitOf, firstBits, bit, index, width, blockBits, blockStart, live, windowBucket, slotsOf, window}
 use Rattle.rules.specs.Scan.{inRange, validLeader, nextLeader, leader, leadersValid, entriesAgree}
 use Rattle.rules.specs.Slots.{hit, isEmpty, isStale, slotForNew, chosen, choose, named, freeSegment}
 use Rattle.replies.specs.Replies.{Said, saidSame, unless, tested, replied, changed}
@@ -56,7 +56,7 @@ pub data Row : Type 0 where
 
 -- A step that antt computes: an `unfolding` line that names it opens all definitions of the calls.
 unfoldable pub computed : (a l : List ℕ) → Call → Step
-unfolding each firstIn allBelow anyBelow apply exec cut depthIn maxDepthIn segmentsIn markIn header wordsFor validShape validHeader entryAddress segmentOf localDepth entry segmentAddress bucket directoryBits bitOf firstBits bit index width blockBits blockStart live windowBucket slotsOf window inRange validLeader nextLeader leader leadersValid entriesAgree hit isEmpty isStale orElse slotForNew chosen choose named freeSegment unless tested replied formatTests formatStores format keyEntry keySegment keyTests entryTests getTests valueAtHit get doubling moves copySlot copying halfEntry updating halvingOf halving doublingFor splitting directoryTests putTests keyChoice placed intoFree putUnused unused put removeTests clearedAt remove mendTests mendEntry mending mend liveRecord blockRecords records wordsOf listTests list behindTests changed effect step
+unfolding each firstIn allBelow anyBelow apply exec cut depthIn maxDepthIn segmentsIn markIn header wordsFor validShape validHeader entryAddress segmentOf localDepth entry segmentAddress folded bucket directoryBits bitOf firstBits bit index width blockBits blockStart live windowBucket slotsOf window inRange validLeader nextLeader leader leadersValid entriesAgree hit isEmpty isStale orElse slotForNew chosen choose named freeSegment unless tested replied formatTests formatStores format keyEntry keySegment keyTests entryTests getTests valueAtHit get doubling moves copySlot copying halfEntry updating halvingOf halving doublingFor splitting directoryTests putTests keyChoice placed intoFree putUnused unused put removeTests clearedAt remove mendTests mendEntry mending mend liveRecord blockRecords records wordsOf listTests list behindTests changed effect step
 computed a l call = step a l call
 
 -- The array after some calls, each made with no list array.

@@ -1,21 +1,28 @@
--- Document 01, 'From a key to its slots': bucket, directory bits, live and stale, probe window.
+-- Document 01, 'From a key to its slots', and document 02, wish 4: the folded key, bucket, directory bits, live and stale, probe
+-- window.
 -- Nothing but `proofs/Keys.antt` opens these definitions.
 -- Assumes nothing.
 use Prim.Native.Nat.{ℕ, zero, suc, _+_, _*_, _-_, _/_, _%_, _^_}
 use mathlib.Core.Bool.{Bool, not, _&&_}
 use mathlib.Core.List.{List, [], _∷_}
+use lib.Bits.{bitXor}
 use lib.Dec.{eqb}
 use Rattle.stores.specs.Lists.{each}
 
 -- ---- A key, opened
 
+-- The folded key: the exclusive or, bit by bit, of the key and floor(key / 1,024). Bucket and directory bits are taken from it. A
+-- slot holds the key itself, and keys are compared, and with 0, as they stand.
+unfoldable pub folded : ℕ → ℕ
+folded key = bitXor key (key / 1024)
+
 -- A key's bucket.
 unfoldable pub bucket : ℕ → ℕ
-bucket key = key % 16
+bucket key = folded key % 16
 
--- A key's directory bits as one number, the first bit lowest (document 01: route). They are bits 4, 5, 6 .. of the key.
+-- A key's directory bits as one number, the first bit lowest (document 01: route). They are bits 4, 5, 6 .. of the folded key.
 unfoldable pub directoryBits : ℕ → ℕ
-directoryBits key = key / 16
+directoryBits key = folded key / 16
 
 -- ---- Directory bits, of a key or of a block
 

@@ -9,9 +9,9 @@ use Rattle.stores.specs.Store.{word}
 
 -- ---- Word 0
 
--- The mark in bits 32 to 63 of word 0.
+-- The mark in bits 32 to 63 of word 0, as document 02's wish 4 has it: a store with the mark of before is none.
 abbrev pub mark : ℕ
-mark = 0x50414745
+mark = 0x50414746
 
 -- G, the present depth of the directory: bits 0 to 7 of word 0.
 unfoldable pub depthIn : ℕ → ℕ

@@ -19,6 +19,7 @@ use model_array::array::MAX_DEPTH_UNIT;
 use model_array::array::SEGMENTS_UNIT;
 use model_array::array::power;
 use model_array::array::words_before;
+use model_array::route::unfolded;
 use model_array::words::CELLS;
 use model_array::words::Cells;
 use model_array::words::WORDS;
@@ -26,7 +27,7 @@ use model_array::words::set_word;
 use model_array::words::word_at;
 use random_calls::generator::from_seed;
 use random_calls::generator::next;
-use random_calls::generator::own_key;
+use random_calls::generator::own_part;
 use random_calls::generator::scatter;
 use random_calls::runs::call_for;
 use random_calls::runs::draw_keys;
@@ -60,11 +61,11 @@ struct Setting {
     number: u64,
 }
 
-// A key of a saved run: one of 48, by the run's number running, of three buckets, of one bucket with
-// two routes, or half of one route and half spread.
-fn key_of(run: u64, roll: u64) -> u64 {
+// The folded key of a key of a saved run: one of 48, by the run's number running, of three buckets, of
+// one bucket with two routes, or half of one route and half spread.
+fn folded_of(run: u64, roll: u64) -> u64 {
     let number = roll % 48;
-    let own = own_key(number);
+    let own = own_part(number);
     match run % 4 {
         0 => number + 1,
         1 => own + number % 3 + number * 16,
@@ -75,6 +76,11 @@ fn key_of(run: u64, roll: u64) -> u64 {
             own + number / 2 % 2 + 16 + number * 32
         },
     }
+}
+
+// A key of a saved run.
+fn key_of(run: u64, roll: u64) -> u64 {
+    unfolded(folded_of(run, roll))
 }
 
 // A random number below a bound, 0 where the bound is 0.
@@ -143,7 +149,7 @@ fn shape_in(first: u64) -> Shape {
     }
 }
 
-// Word 0 with one field more or less by one, or another word.
+// Word 0 with one field more or less by one, the mark less, which is the one of before, or another word.
 fn spoiled_first(first: u64, roll: u64) -> u64 {
     match roll % 10 {
         0 => wrapping_add_u64(first, 1),
@@ -152,7 +158,7 @@ fn spoiled_first(first: u64, roll: u64) -> u64 {
         3 => wrapping_sub_u64(first, MAX_DEPTH_UNIT),
         4 => wrapping_add_u64(first, SEGMENTS_UNIT),
         5 => wrapping_sub_u64(first, SEGMENTS_UNIT),
-        6 => wrapping_add_u64(first, UPPER_HALF),
+        6 => wrapping_sub_u64(first, UPPER_HALF),
         7 => first % SEGMENTS_UNIT + first / UPPER_HALF % UPPER_HALF * UPPER_HALF,
         8 => first / MAX_DEPTH_UNIT * MAX_DEPTH_UNIT + roll / 16 % 14,
         _ => roll,

@@ -39,9 +39,9 @@ const WORDS_K: usize = 532480;
 type Largest = [u64; WORDS_K];
 
 // Word 0 after a format with D = 2, S = 4, and with D = 12, S = 4,096.
-const FIRST_WORD_A: u64 = 0x5041474500040200;
+const FIRST_WORD_A: u64 = 0x5041474600040200;
 
-const FIRST_WORD_K: u64 = 0x5041474510000C00;
+const FIRST_WORD_K: u64 = 0x5041474610000C00;
 
 // The keys that fill a window.
 const WINDOW: usize = 16;
@@ -119,8 +119,11 @@ fn put_263(allowance: u32) -> Call {
     Call::Put(263, 1, allowance)
 }
 
-// The put of state i, whose keys share their first two route bits.
+// The put of state i, whose key folds to 1030, and one whose key folds to 1031: as the sixteen before it,
+// which it follows in their window and on their route.
 const PUT_1031: Call = Call::Put(1031, 1, ALLOWANCE);
+
+const PUT_1030: Call = Call::Put(1030, 1, ALLOWANCE);
 
 // a: word 0 after format, and the least length.
 fn state_a(arrays: &mut Arrays) {
@@ -184,9 +187,13 @@ fn state_g(arrays: &mut Arrays) {
 // h: as e with one segment. i: with four, three and two segments.
 fn states_h_i(arrays: &mut Arrays) {
     put_state(arrays, 1, 16, put_263(ALLOWANCE), NO_SEGMENT, 0);
-    put_state(arrays, 4, 64, PUT_1031, TOO_DEEP, 140);
-    put_state(arrays, 3, 64, PUT_1031, TOO_DEEP, 140);
-    put_state(arrays, 2, 64, PUT_1031, NO_SEGMENT, 69);
+    put_state(arrays, 4, 64, PUT_1031, DONE, 2);
+    expect_word(arrays, 56, 1031);
+    put_state(arrays, 3, 64, PUT_1031, DONE, 2);
+    put_state(arrays, 2, 64, PUT_1031, DONE, 2);
+    put_state(arrays, 4, 64, PUT_1030, TOO_DEEP, 140);
+    put_state(arrays, 3, 64, PUT_1030, TOO_DEEP, 140);
+    put_state(arrays, 2, 64, PUT_1030, NO_SEGMENT, 69);
 }
 
 // j: shapes that are refused.

@@ -15,6 +15,7 @@ use index_model::ALL_STORES;
 use index_model::Call;
 use index_model::DONE;
 use model_array::array::power;
+use model_array::route::unfolded;
 use model_array::words::CELLS;
 use std::num::wrapping_add_u32;
 
@@ -23,10 +24,10 @@ const WORST_WORDS: usize = 9856;
 
 const WORST_STORES: u32 = 9764;
 
-// The put's key, 5 × 65,536 + 0x7FF0, and a key that it meets, 0xFFF0.
-const WORST_KEY: u64 = 360432;
+// The put's folded key, 5 × 65,536 + 0x7FF0, and that of a key that it meets, 0xFFF0.
+const WORST_FOLDED: u64 = 360432;
 
-const MET_KEY: u64 = 65520;
+const MET_FOLDED: u64 = 65520;
 
 // The splits of the put, and the stores of a split's copy step and entry update.
 const SPLITS: u32 = 12;
@@ -43,8 +44,8 @@ const REACH: u32 = 10;
 // Puts the sixty-four keys.
 fn fill_segment(arrays: &mut Arrays) {
     for i in 0..64 {
-        let key = i / 16 * 65536 + MET_KEY + i % 16;
-        compare(arrays, Call::Put(key, key + 1, ALL_STORES));
+        let folded = i / 16 * 65536 + MET_FOLDED + i % 16;
+        compare(arrays, Call::Put(unfolded(folded), folded + 1, ALL_STORES));
     }
 }
 
@@ -54,9 +55,10 @@ fn cut_worst(arrays: &mut Arrays, allowance: u32) {
     begin_case(arrays, WORST_WORDS);
     arrays[INDEX] = arrays[SAVED];
     arrays[MODEL] = arrays[SAVED];
-    compare(arrays, Call::Put(WORST_KEY, 1, allowance));
-    compare(arrays, Call::Get(WORST_KEY));
-    compare(arrays, Call::Get(MET_KEY));
+    let key = unfolded(WORST_FOLDED);
+    compare(arrays, Call::Put(key, 1, allowance));
+    compare(arrays, Call::Get(key));
+    compare(arrays, Call::Get(unfolded(MET_FOLDED)));
     compare(arrays, Call::Mend(0));
     compare(arrays, Call::Mend(ALL_STORES));
 }
@@ -94,7 +96,7 @@ fn cut_splits(arrays: &mut Arrays) {
 
 // The whole put, with its number of stores.
 fn whole_worst(arrays: &mut Arrays) {
-    let seen = compare(arrays, Call::Put(WORST_KEY, 1, ALL_STORES));
+    let seen = compare(arrays, Call::Put(unfolded(WORST_FOLDED), 1, ALL_STORES));
     expect(arrays, seen.reply == DONE && seen.stores == WORST_STORES);
 }
 

@@ -14,43 +14,36 @@ Inv-loop words₀ i₀ words i = (i ≤ 64) × (length words ≡ length words₀
 abbrev μ-loop : tie.MeasureT-loop
 μ-loop words₀ i₀ words i = 64 - i
 
--- src/main.rt:69:5
 loop-holds : tie.Need-loop-holds Inv-loop μ-loop
 loop-holds c = search needs
 
--- src/main.rt:70:19
-mul-key : tie.Need-mul-key Inv-loop μ-loop
-mul-key c = search needs
+mul-folded : tie.Need-mul-folded Inv-loop μ-loop
+mul-folded c = search needs
 
--- src/main.rt:70:19
-add-key : tie.Need-add-key Inv-loop μ-loop
-add-key c = search needs
+add-folded : tie.Need-add-folded Inv-loop μ-loop
+add-folded c = search needs
 
--- src/main.rt:70:19
-add-key-2 : tie.Need-add-key-2 Inv-loop μ-loop
-add-key-2 c = search needs
+add-folded-2 : tie.Need-add-folded-2 Inv-loop μ-loop
+add-folded-2 c = search needs
 
--- src/main.rt:71:9
+unfolded-requires : tie.Need-unfolded-requires Inv-loop μ-loop
+unfolded-requires c κs = search needs
+
 put-page-requires : tie.Need-put-page-requires Inv-loop μ-loop
 put-page-requires c κs = search needs
 
--- src/main.rt:69:9
 add-i : tie.Need-add-i Inv-loop μ-loop
 add-i c = search needs
 
--- src/main.rt:69:5
 loop-less : tie.Need-loop-less Inv-loop μ-loop
 loop-less c = search needs
 
--- src/main.rt:69:5
 loop-again : tie.Need-loop-again Inv-loop μ-loop
 loop-again c = search needs
 
--- src/main.rt:68:1
 same-length : tie.Need-same-length Inv-loop μ-loop
 same-length c = search needs
 
--- src/main.rt:68:1
 returns : tie.Need-returns Inv-loop μ-loop
 returns c = search needs
 
@@ -61,9 +54,10 @@ fill-segment-spec =
     Inv-loop
     μ-loop
     loop-holds
-    mul-key
-    add-key
-    add-key-2
+    mul-folded
+    add-folded
+    add-folded-2
+    unfolded-requires
     put-page-requires
     add-i
     loop-less

@@ -13,8 +13,8 @@ use Rattle.segment.proofs.live.moves.Tie as tie
 open-key-requires : tie.Need-open-key-requires
 open-key-requires c κs = search needs
 
-is-live-requires : tie.Need-is-live-requires
-is-live-requires c κs = search needs
+is-live-by-requires : tie.Need-is-live-by-requires
+is-live-by-requires c κs = (c .before .pre, c .open-key .ensures .1)
 
 cast-result : tie.Need-cast-result
 cast-result c = search needs
@@ -27,7 +27,7 @@ unfolding moves
 returns c =
     let a = c .before .before .before .before .before .args in
     let L = a .block .«local_depth» in
-    let lives : live L (shared (a .block)) (a .key) ≡ true = sym (c .before .before .before .is-live .ensures) ∙ c .before .before .if1 .taken in
+    let lives : live L (shared (a .block)) (a .key) ≡ true = sym (c .before .before .before .is-live-by .ensures) ∙ c .before .before .if1 .taken in
     λ s j e. rw (e, lives, bit-shift (a .key) L, c .before .before .before .before .open-key .ensures .1)
 
 returns-2 : tie.Need-returns-2
@@ -35,8 +35,8 @@ unfolding moves
 returns-2 c =
     let a = c .before .before .before .args in
     let L = a .block .«local_depth» in
-    let stale : live L (shared (a .block)) (a .key) ≡ false = sym (c .before .is-live .ensures) ∙ c .if1 .left in
+    let stale : live L (shared (a .block)) (a .key) ≡ false = sym (c .before .is-live-by .ensures) ∙ c .if1 .left in
     λ s j e. rw (e, stale) (c .if1 .left)
 
 pub moves-spec : {M : Type 1} → statement M
-moves-spec = tie.close (tie.spec open-key-requires is-live-requires cast-result shr-result returns returns-2)
+moves-spec = tie.close (tie.spec open-key-requires is-live-by-requires cast-result shr-result returns returns-2)
