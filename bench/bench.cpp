@@ -3,15 +3,13 @@
 
 #include <benchmark/benchmark.h>
 
-#include <random>
-
 namespace {
 
 // The pages of a cabinet in use, and those that it takes before its first refusal (bench/counts).
 constexpr word in_use = 70000;
 // The calls between two looks at the clock, where it is stopped for others.
 constexpr word batch = 2048;
-constexpr word until_refusal(bool running) { return running ? 162815 : 89159; }
+constexpr word until_refusal(bool running) { return running ? 162815 : 81648; }
 
 word place(word page) { return 3 * page; }
 
@@ -19,7 +17,7 @@ word place(word page) { return 3 * page; }
 Words keys(bool running, word count) {
     Words found(count);
     std::mt19937_64 random(7);
-    for (word i = 0; i < count; i++) found[i] = running ? i + 1 : random() >> 1 | 1;
+    for (word i = 0; i < count; i++) found[i] = running ? i + 1 : random_key(random);
     return found;
 }
 
@@ -224,14 +222,13 @@ void put_with_split(benchmark::State &state) {
 template <class Peer>
 void worst_put(benchmark::State &state) {
     Peer peer(12, 13);
-    for (word h = 0; h < 4; h++)
-        for (word b = 0; b < 16; b++) peer.put(h * 65536 + 0xfff0 + b, 1);
+    for (word key : twin::before_worst) peer.put(key, 1);
     Words before = peer.words;
     for (auto _ : state) {
         state.PauseTiming();
         peer.words = before;
         state.ResumeTiming();
-        benchmark::DoNotOptimize(peer.put(5 * 65536 + 0x7ff0, 1));
+        benchmark::DoNotOptimize(peer.put(twin::worst_key, 1));
     }
     state.counters["stores"] = peer.stores;
 }

@@ -5,14 +5,12 @@
 #include <malloc.h>
 #include <sys/stat.h>
 
-#include <random>
-
 namespace {
 
 // The first `count` directory bits of a key, the first one heaviest.
 word bits_of(word key, word count) {
-    word found = 0;
-    for (word i = 0; i < count; i++) found = 2 * found + (key >> (4 + i) & 1);
+    word folded_key = twin::folded(key), found = 0;
+    for (word i = 0; i < count; i++) found = 2 * found + (folded_key >> (4 + i) & 1);
     return found;
 }
 
@@ -41,11 +39,12 @@ int live(const Ours &ours, word key) {
 // Word 0, the entry, the keys looked at, and the value where there is one.
 int words_read(const Ours &ours, word key) {
     Place p = place_of(ours, key);
+    word folded_key = twin::folded(key);
     int read = 2;
     for (word b = 0; b < 4; b++)
         for (word j = 0; j < 4; j++) {
             read++;
-            if (p.segment[(key + b) % 16 * 8 + 2 * j] == key) return read + 1;
+            if (p.segment[(folded_key + b) % 16 * 8 + 2 * j] == key) return read + 1;
         }
     return read;
 }
@@ -56,7 +55,7 @@ void fill(const char *name, bool running) {
     Words keys;
     word stores = 0, splitting = 0, at_split = 0, refusal = 0, plain = 0;
     for (word i = 1; refusal == 0; i++) {
-        word key = running ? i : random() >> 1 | 1;
+        word key = running ? i : random_key(random);
         int before = live(ours, key);
         refusal = ours.put(key, 3 * key);
         stores += ours.stores;
@@ -112,9 +111,8 @@ int main() {
     fill("running", true);
     fill("random", false);
     Ours worst(12, 13);
-    for (word h = 0; h < 4; h++)
-        for (word b = 0; b < 16; b++) worst.put(h * 65536 + 0xfff0 + b, 1);
-    worst.put(5 * 65536 + 0x7ff0, 1);
+    for (word key : twin::before_worst) worst.put(key, 1);
+    worst.put(twin::worst_key, 1);
     std::printf("worst stores %u\n", worst.stores);
     return 0;
 }

@@ -15,6 +15,7 @@
 #include <filesystem>
 #include <memory>
 #include <optional>
+#include <random>
 #include <string>
 #include <unordered_map>
 #include <vector>
@@ -37,6 +38,9 @@ inline void must(bool good, const char *what) {
     std::fprintf(stderr, "bench: %s failed\n", what);
     std::exit(2);
 }
+
+// A random key that every peer takes: not 0, and below 2^63.
+inline word random_key(std::mt19937_64 &random) { return random() >> 1 | 1; }
 
 // A file name that no peer has used yet.
 inline std::string scratch(const std::string &name) {

@@ -113,6 +113,17 @@ def memory_table(counts):
     return "\n".join(rows)
 
 
+def step_table(counts):
+    """The pages until the first refusal, with its number: of each shape by folded keys, then by keys as they stand."""
+    rows = ["| Keys | D = 6, S = 64 | as they stand | D = 12, S = 4,032 | as they stand |", "|---|---|---|---|---|"]
+    for step in dict.fromkeys(group.partition("/")[2] for group, _ in counts):
+        columns = [(f"{shape}/{step}", rule) for shape in ("small", "cabinet") for rule in ("", "_as_it_stands")]
+        cells = [f"{counts[group, 'pages' + rule]} ({counts[group, 'refusal' + rule]})" for group, rule in columns]
+        said = f"in steps of {int(step):,}" if step.isdigit() else step
+        rows.append(f"| {said} | " + " | ".join(cells) + " |")
+    return "\n".join(rows)
+
+
 def instruction_table(path):
     said = {"get": "get, hit", "overwrite": "overwrite", "new": "put of a new page", "remove": "remove"}
     calls = collections.defaultdict(dict)
@@ -173,7 +184,7 @@ def main(folder, repetitions):
         "@command@": "bench/run", "@repetitions@": str(repetitions), "@processors@": str(machine["num_cpus"]),
         "@mhz@": str(machine["mhz_per_cpu"]), "@ratios@": ratio_table(times), "@times@": time_table(times), "@counts@": count_table(counts),
         "@instructions@": instruction_table(folder / "instructions.txt"), "@desk@": desk_table(root), "@worst@": counts["worst", "stores"], "@memory@": memory_table(counts),
-        "@print@": printed, "@most_gets@": str(MOST_GETS),
+        "@print@": printed, "@most_gets@": str(MOST_GETS), "@steps@": step_table(read_counts(folder / "steps.txt")),
     }.items():
         text = text.replace(mark, value)
     (HERE / "RESULTS.md").write_text(text)

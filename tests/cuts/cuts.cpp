@@ -66,9 +66,7 @@ constexpr word put = 1, take = 2, set_job = 3, take_job = 4, print = 5;
 
 bool by_board(const Message &m) { return m.kind >= set_job; }
 
-twin::Job job_of(word key) { return {key >> 16, key >> 12 & 15, key & 4095}; }
-
-bool is_job(word key) { return twin::refusal_of(job_of(key)) == twin::done; }
+bool is_job(word key) { return twin::refusal_of(twin::job_of(key)) == twin::done; }
 
 // Room for the lines of a year.
 unsigned char lines[1 << 16];
@@ -80,16 +78,16 @@ void make_by_twin(word *words, const Message &m, Log log) {
     twin::Board<Log, fault> board(words, size, log);
     if (m.kind == put) index.put(m.key, m.value, all);
     if (m.kind == take) index.remove(m.key, all);
-    if (m.kind == set_job) board.set(job_of(m.key), m.value, all);
-    if (m.kind == take_job) board.remove(job_of(m.key), all);
-    if (m.kind == print) board.print(job_of(m.key).year, lines, sizeof lines);
+    if (m.kind == set_job) board.set(twin::job_of(m.key), m.value, all);
+    if (m.kind == take_job) board.remove(twin::job_of(m.key), all);
+    if (m.kind == print) board.print(twin::job_of(m.key).year, lines, sizeof lines);
 }
 
 #ifdef FAULT
 void make(word *words, const Message &m) { make_by_twin<twin::NoLog, twin::Fault::FAULT>(words, m, {}); }
 #else
 void make(word *words, const Message &m) {
-    twin::Job job = job_of(m.key);
+    twin::Job job = twin::job_of(m.key);
     if (m.kind == put) page_index_put(words, size, m.key, m.value, all);
     if (m.kind == take) page_index_remove(words, size, m.key, all);
     if (m.kind == set_job) month_board_set(words, size, job.year, job.month, job.number, m.value, all);
@@ -128,16 +126,26 @@ struct Scene {
         table[key] = value;
     }
 
+    // Adds keys of each bucket, whose values rise with the bucket.
+    void add_segment(const std::array<word, 64> &keys, word first) {
+        for (word key : keys) add(key, first + twin::folded(key) % 16);
+    }
+
+    // The job that has this folded key splits a segment.
+    void add_splitting(word bits) {
+        splitting.push_back(twin::unfolded(bits));
+        if (!is_job(splitting.back())) fail("no job");
+    }
+
     // A directory of depth 12 with one block at each smaller depth: the block of depth k + 1 has the
     // keys whose directory bits begin with k ones and a zero.
     Scene() {
         if (sched_getaffinity(0, sizeof processors, &processors) != 0) fail("sched_getaffinity");
         page_index_format(image.data(), size, depth, segments, all);
-        for (word h = 0; h < 4; h++)
-            for (word b = 0; b < 16; b++) add(h * 65536 + 0xfff0 + b, 1000 + b);
-        add(5 * 65536 + 0x7ff0, 7);
+        add_segment(twin::before_worst, 1000);
+        add(twin::worst_key, 7);
         for (word month = 1; month <= 12; month++) {
-            jobs.push_back(twin::key_of({year, month, 0x1f0 + month}));
+            jobs.push_back(twin::key_of(twin::job_with(year, month, 0x1f0 + month)));
             add(jobs.back(), 100 * month);
         }
     }
@@ -148,9 +156,8 @@ Scene many_splits() {
     Scene scene;
     for (int k = 0; k < 5; k++) {
         word bits = 0xfff0 - (16u << k);
-        for (word h = 0; h < 4; h++)
-            for (word b = 0; b < 16; b++) scene.add(h * 65536 + bits + b, 100 * k + b);
-        scene.splitting.push_back(5 * 65536 + bits - 0x8000);
+        scene.add_segment(twin::segment_of(bits), 100 * k);
+        scene.add_splitting(5 * 65536 + bits - 0x8000);
     }
     return scene;
 }
@@ -160,10 +167,10 @@ Scene many_splits() {
 Scene one_split() {
     Scene scene;
     for (int k = 0; k < 2; k++) {
-        word bits = twin::key_of({16, 1, (16u << k) - 16});
+        word bits = 16 * 65536 + 4096 + (16u << k) - 16;
         for (word h = 0; h < 4; h++)
-            for (word b = 0; b < 16; b++) scene.add(bits + (h << (k + 5)) + b, 100 * k + b);
-        scene.splitting.push_back(bits + (4u << (k + 5)));
+            for (word b = 0; b < 16; b++) scene.add(twin::unfolded(bits + (h << (k + 5)) + b), 100 * k + b);
+        scene.add_splitting(bits + (4u << (k + 5)));
     }
     return scene;
 }
@@ -183,7 +190,7 @@ std::vector<Message> work(const Scene &scene, std::mt19937_64 &random) {
         calls.push_back({random() % 2 ? put : set_job, key, random(), 0});
         calls.push_back({put, keys[random() % keys.size()], random(), 0});
         calls.push_back({take, keys[random() % keys.size()], 0, 0});
-        calls.push_back({put, 3 + 16 * (random() % 512), random(), 0});
+        calls.push_back({put, twin::unfolded(3 + 16 * (random() % 512)), random(), 0});
         calls.push_back({set_job, twin::key_of({year, 1 + random() % 12, random() % 4096}), random(), 0});
         calls.push_back({take_job, scene.jobs[random() % 12], 0, 0});
         calls.push_back({random() % 8 ? set_job : print, known, random(), 0});
@@ -273,7 +280,7 @@ void record(Table &table, const Message &m) {
 
 // A job is looked up by the board.
 page_index_reply look_up(const word *file, word key) {
-    twin::Job job = job_of(key);
+    twin::Job job = twin::job_of(key);
     return is_job(key) ? month_board_read(file, size, job.year, job.month, job.number) : page_index_get(file, size, key);
 }
 
@@ -282,7 +289,7 @@ std::string lines_of(const Table &table) {
     static const char *const names[] = {"Jan", "Feb", "Mar", "Apr", "May", "Jun", "Jul", "Aug", "Sep", "Oct", "Nov", "Dec"};
     std::string text;
     for (const auto &[key, pages] : table) {
-        twin::Job job = job_of(key);
+        twin::Job job = twin::job_of(key);
         if (job.year != year || !is_job(key)) continue;
         text += std::string(names[job.month - 1]) + '\t' + std::to_string(job.number) + '\t' + std::to_string(pages) + '\n';
     }

@@ -139,7 +139,7 @@ Words full() {
     return words;
 }
 
-// The same with jobs of one month.
+// The same with jobs of one month, which folding keeps in one window: their numbers are below 1,024.
 Words full_board() {
     Words words = formatted();
     for (word i = 0; i < 16; i++) month_board_set(words.data(), size, 2026, 3, 7 + 16 * i, 70 + i, all);

@@ -2,6 +2,7 @@
 // call runs on a stack of its own that was painted; the lowest byte that has changed is the deepest one
 // used. Each runs twice, with two paints, so that a byte that is stored as it was painted is seen too.
 #include "../../bindings/c/month_board.h"
+#include "../twin/keys.hpp"
 
 #include <ucontext.h>
 
@@ -13,7 +14,7 @@
 
 namespace {
 
-using word = std::uint64_t;
+using twin::word;
 using Words = std::vector<word>;
 
 constexpr std::size_t limit = 8192;
@@ -67,8 +68,7 @@ Words formatted(std::size_t depth, std::size_t segments) {
 // One segment, full of keys whose first twelve directory bits are 1.
 Words before_most_stores() {
     Words words = formatted(12, 13);
-    for (word h = 0; h < 4; h++)
-        for (word b = 0; b < 16; b++) page_index_put(words.data(), words.size(), h * 65536 + 0xfff0 + b, 1, all);
+    for (word key : twin::before_worst) page_index_put(words.data(), words.size(), key, 1, all);
     return words;
 }
 
@@ -99,11 +99,12 @@ bool board_passes() {
     word jobs = 0;
     Words board = full_board(jobs);
     word month = 1 + (jobs - 1) / 4096, number = (jobs - 1) % 4096;
+    constexpr twin::Job worst = twin::job_of(twin::worst_key);
     std::vector<unsigned char> lines(32 * jobs);
     bool sound = passes("board: set of a known job", board, 1,
                         [=](word *w, std::size_t n) { return month_board_set(w, n, 9999, month, number, 1, all); });
     sound &= passes("board: set, the most stores", before_most_stores(), 9764,
-                    [](word *w, std::size_t n) { return month_board_set(w, n, 5, 7, 4080, 1, all); });
+                    [=](word *w, std::size_t n) { return month_board_set(w, n, worst.year, worst.month, worst.number, 1, all); });
     sound &= passes("board: read", board, 0, [=](word *w, std::size_t n) { return month_board_read(w, n, 9999, month, number); });
     sound &= passes("board: remove", board, 1,
                     [=](word *w, std::size_t n) { return month_board_remove(w, n, 9999, month, number, all); });
@@ -127,7 +128,7 @@ int main() {
     sound &= passes("get", index, 0, [=](word *w, std::size_t n) { return page_index_get(w, n, pages); });
     sound &= passes("put of a known page", index, 1, [=](word *w, std::size_t n) { return page_index_put(w, n, pages, 2, all); });
     sound &= passes("put with the most stores", before_most_stores(), 9764,
-                    [](word *w, std::size_t n) { return page_index_put(w, n, 5 * 65536 + 0x7ff0, 1, all); });
+                    [](word *w, std::size_t n) { return page_index_put(w, n, twin::worst_key, 1, all); });
     sound &= passes("remove", index, 1, [=](word *w, std::size_t n) { return page_index_remove(w, n, pages, all); });
     sound &= passes("mend", to_mend(), 4095, [](word *w, std::size_t n) { return page_index_mend(w, n, all); });
     sound &= passes("list of a full index", index, 0,

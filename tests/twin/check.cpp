@@ -20,12 +20,15 @@ bool same(const page_index_reply &ours, const twin::Answer &theirs) {
 // The word that the list arrays hold where nothing was written.
 constexpr word unwritten = 0x1111222233334444;
 
+// A key of bucket 7. The bits above those that the index reads differ, so that folding changes directory bits too.
+word sharing(word number) { return twin::unfolded(number % 3 * 65536 + 16 * number + 7); }
+
 // One call on both arrays; whether answers, arrays and whole list arrays agree, word for word.
 bool agrees(Words &ours, Words &theirs, std::mt19937_64 &r) {
     twin::Index<> index(theirs.data(), theirs.size());
     word *w = ours.data();
     std::size_t n = ours.size();
-    word key = r() % 3 ? 7 + 16 * (r() % 90) : r() % 500, value = r();
+    word key = r() % 3 ? sharing(r() % 90) : r() % 500, value = r();
     std::uint32_t allowance = r() % 4 ? 0xffffffff : std::uint32_t(r() % 100);
     switch (r() % 16) {
         case 0: return same(page_index_mend(w, n, allowance), index.mend(allowance)) && ours == theirs;
@@ -43,14 +46,15 @@ bool agrees(Words &ours, Words &theirs, std::mt19937_64 &r) {
     }
 }
 
-// Years, months and numbers at the ends of their ranges and behind them, and some that give another job's
-// key where bits are lost or the number runs into the month.
+// Mostly jobs that share a window. Years, months and numbers at the ends of their ranges and behind them, and
+// some that give such a job's key where bits are lost or the number runs into the month.
 twin::Job job(std::mt19937_64 &r) {
     constexpr word years[] = {1, 2026, 2026, 2027, 9999, 0, 10000, (word(1) << 48) + 2026};
     constexpr word months[] = {0, 13, (word(1) << 52) + 1, ~word(0)};
-    constexpr word numbers[] = {0, 9, 10, 4095, 4096, 4096 + 7, (word(1) << 32) + 7, ~word(0)};
-    word month = r() % 16 ? 1 + r() % 12 : months[r() % 4];
-    return {years[r() % (r() % 4 ? 5 : 8)], month, r() % 8 ? 7 + 16 * (r() % 60) : numbers[r() % 8]};
+    word month = r() % 16 ? 1 + r() % 12 : months[r() % 4], year = years[r() % (r() % 4 ? 5 : 8)];
+    word number = twin::job_with(year, month, 7 + 16 * (r() % 60)).number, next = twin::job_with(year, month + 1, 7).number;
+    const word numbers[] = {0, 9, 10, 4095, 4096, 4096 + next, (word(1) << 32) + number, ~word(0)};
+    return {year, month, r() % 8 ? number : numbers[r() % 8]};
 }
 
 // Prints into buffers of just the bytes needed, one byte less and some more.

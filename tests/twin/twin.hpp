@@ -1,12 +1,12 @@
 // The page index and the month board written by hand in C++: the same scheme, the same stores in the
 // same order, no proofs. The tests compare with it and put faults into it; the benchmark races it.
 #pragma once
+#include "keys.hpp"
+
 #include <cstddef>
 #include <cstdint>
 
 namespace twin {
-
-using word = std::uint64_t;
 
 enum Code : std::uint32_t {
     done = 0,
@@ -36,7 +36,11 @@ struct Answer {
 // the old segment before the entries name the new one.
 enum class Fault { none, key_first, entries_left_to_right, moved_records_cleared };
 
-constexpr word mark = 0x50414745;
+// What a key's bucket and directory bits are taken from: its folded key (document 02, wish 4), or the key as
+// it stands (document 01), which bench/steps compares with it.
+enum class Numbering { folded, as_it_stands };
+
+constexpr word mark = 0x50414746;
 constexpr unsigned segment_words = 128;
 constexpr unsigned slots = 64;
 
@@ -45,7 +49,7 @@ struct NoLog {
     void store(std::size_t, word) {}
 };
 
-template <class Log = NoLog, Fault fault = Fault::none>
+template <class Log = NoLog, Fault fault = Fault::none, Numbering numbering = Numbering::folded>
 class Index {
   public:
     Index(word *words, std::size_t length, Log log = Log()) : w(words), n(length), log(log) {}
@@ -65,25 +69,26 @@ class Index {
     Answer get(word key) const {
         if (!valid()) return refuse(no_store);
         if (key == 0) return refuse(no_key);
-        word e = w[(std::size_t(1) << g) + route(key, g)];
+        word folded_key = fold(key), e = w[(std::size_t(1) << g) + route(folded_key, g)];
         if (e >> 32 > g || std::uint32_t(e) >= s) return refuse(broken);
-        const word *at = find(segment(std::uint32_t(e)), key);
+        const word *at = find(segment(std::uint32_t(e)), key, folded_key);
         return at == nullptr ? refuse(absent) : Answer{done, 0, at[1]};
     }
 
     Answer put(word key, word value, std::uint32_t allowance) {
         begin(allowance);
+        const word folded_key = fold(key);
         for (;;) {
             if (std::uint32_t no = check(key)) return end(no);
-            std::size_t i = route(key, g);
+            std::size_t i = route(folded_key, g);
             word e = w[(std::size_t(1) << g) + i];
             unsigned l = unsigned(e >> 32);
             word *base = segment(std::uint32_t(e));
-            if (word *at = find(base, key)) {
+            if (word *at = find(base, key, folded_key)) {
                 store(at + 1 - w, value);
                 return end(done);
             }
-            if (word *at = slot_for_new(base, key, l, i >> (g - l))) {
+            if (word *at = slot_for_new(base, folded_key, l, i >> (g - l))) {
                 store_record(at - w, key, value);
                 return end(done);
             }
@@ -98,8 +103,8 @@ class Index {
     Answer remove(word key, std::uint32_t allowance) {
         begin(allowance);
         if (std::uint32_t no = check(key)) return refuse(no);
-        word e = w[(std::size_t(1) << g) + route(key, g)];
-        word *at = find(segment(std::uint32_t(e)), key);
+        word folded_key = fold(key), e = w[(std::size_t(1) << g) + route(folded_key, g)];
+        word *at = find(segment(std::uint32_t(e)), key, folded_key);
         if (at == nullptr) return refuse(absent);
         store(at - w, 0);
         return end(done);
@@ -183,9 +188,12 @@ class Index {
         return w + (std::size_t(2) << d) + std::size_t(segment_words) * number;
     }
 
-    // The first `count` directory bits of a key, the first one heaviest: 16 bits turned round.
-    static std::size_t route(word key, unsigned count) {
-        std::uint32_t r = key >> 4 & 0xffff;
+    // The folded key, by the index's numbering.
+    static word fold(word key) { return numbering == Numbering::folded ? folded(key) : key; }
+
+    // The first `count` directory bits of a key, the first one heaviest: 16 bits of its folded key turned round.
+    static std::size_t route(word folded_key, unsigned count) {
+        std::uint32_t r = folded_key >> 4 & 0xffff;
         r = (r & 0x5555) << 1 | (r >> 1 & 0x5555);
         r = (r & 0x3333) << 2 | (r >> 2 & 0x3333);
         r = (r & 0x0f0f) << 4 | (r >> 4 & 0x0f0f);
@@ -193,9 +201,9 @@ class Index {
         return r >> (16 - count);
     }
 
-    static word *find(word *base, word key) {
+    static word *find(word *base, word key, word folded_key) {
         for (unsigned b = 0; b < 4; b++) {
-            word *bucket = base + (key + b) % 16 * 8;
+            word *bucket = base + (folded_key + b) % 16 * 8;
             for (unsigned j = 0; j < 8; j += 2)
                 if (bucket[j] == key) return bucket + j;
         }
@@ -203,13 +211,13 @@ class Index {
     }
 
     // The first empty slot of the window; where there is none, the first stale one.
-    static word *slot_for_new(word *base, word key, unsigned l, std::size_t bits) {
+    static word *slot_for_new(word *base, word folded_key, unsigned l, std::size_t bits) {
         word *stale = nullptr;
         for (unsigned b = 0; b < 4; b++) {
-            word *bucket = base + (key + b) % 16 * 8;
+            word *bucket = base + (folded_key + b) % 16 * 8;
             for (unsigned j = 0; j < 8; j += 2) {
                 if (bucket[j] == 0) return bucket + j;
-                if (stale == nullptr && route(bucket[j], l) != bits) stale = bucket + j;
+                if (stale == nullptr && route(fold(bucket[j]), l) != bits) stale = bucket + j;
             }
         }
         return stale;
@@ -270,8 +278,8 @@ class Index {
         const word *from = segment(number);
         std::size_t to = segment(fresh) - w;
         for (unsigned j = 0; j < slots; j++) {
-            word key = from[2 * j];
-            if (key != 0 && route(key, l) == bits && (key >> (4 + l) & 1)) {
+            word key = from[2 * j], folded_key = fold(key);
+            if (key != 0 && route(folded_key, l) == bits && (folded_key >> (4 + l) & 1)) {
                 store(to + 2 * j + 1, from[2 * j + 1]);
                 store(to + 2 * j, key);
                 if constexpr (fault == Fault::moved_records_cleared) store(from + 2 * j - w, 0);
@@ -302,7 +310,7 @@ class Index {
             const word *base = segment(std::uint32_t(entries[i]));
             for (unsigned j = 0; j < slots; j++) {
                 word key = base[2 * j];
-                if (key == 0 || route(key, l) != i >> (g - l)) continue;
+                if (key == 0 || route(fold(key), l) != i >> (g - l)) continue;
                 visit(key, base[2 * j + 1]);
                 records++;
             }
@@ -311,12 +319,6 @@ class Index {
         return records;
     }
 };
-
-struct Job {
-    word year, month, number;
-};
-
-inline word key_of(const Job &job) { return job.year * 65536 + job.month * 4096 + job.number; }
 
 inline std::uint32_t refusal_of(const Job &job) {
     if (job.year < 1 || job.year > 9999) return bad_year;

@@ -3,9 +3,10 @@ use page_index::{format, list, put, Refusal};
 
 const ALL: u32 = u32::MAX;
 
-/// Sixteen keys of bucket 7 and route 000: they fill their window, slots 28 to 43.
+/// Sixteen keys of bucket 7 and route 000, which fill their window, slots 28 to 43: 7, 135, .. 903, which are their
+/// own folded keys, and 1030, 1158, .. 1926, whose folded keys are larger by one.
 fn keys_of_one_window() -> impl Iterator<Item = u64> {
-    (0..16).map(|i| 7 + 128 * i)
+    (0..8).map(|i| 7 + 128 * i).chain((0..8).map(|i| 1030 + 128 * i))
 }
 
 /// An index of D = 3 and S = 4. From the left its blocks have segments 0, 3, 2, 1 and depths 3, 3, 2, 1.
@@ -16,7 +17,7 @@ fn index_of_four_blocks() -> Vec<u64> {
         put(&mut words, key, 10 * key, ALL).unwrap();
     }
     // A seventeenth key of that window is refused after three splits, of 69, 71 and 75 stores.
-    let refused = put(&mut words, 2055, 20550, ALL).unwrap_err();
+    let refused = put(&mut words, 2053, 20530, ALL).unwrap_err();
     assert_eq!((refused.refusal, refused.stores), (Refusal::TooDeep, 215));
     for key in [67, 449, 37, 146, 25] {
         assert_eq!(put(&mut words, key, 10 * key, ALL), Ok(2));

@@ -1,9 +1,9 @@
 //! Compares the compiled month board with its model, call by call, word by word and byte by byte: on arrays
 //! that runs of calls leave, with jobs of three years among other keys, on such arrays with damage, on
 //! directories of depth 12 with damaged entries, and on arrays of random words.
-use crate::board_model::{self, BoardCall};
-use crate::model::{Answer, Call, ABSENT, DONE};
-use crate::{allowance, answer, compare, damage, key, random_words, Counts, Random};
+use crate::board_model::{self, key_of, BoardCall};
+use crate::model::{first_word, folded, Answer, Call, ABSENT, DONE};
+use crate::{allowance, answer, compare, damage, has_old_mark, key, random_words, unfolded, Counts, Random};
 use page_index::board::{self, Job};
 
 /// The replies that must come, for each call.
@@ -62,6 +62,7 @@ impl Pair {
     fn count(&self, call: &'static str, got: Answer, counts: &mut BoardCounts) {
         counts.board.count(call, got);
         counts.board.damaged += self.damaged as u64;
+        counts.board.old += has_old_mark(&self.ours) as u64;
     }
 
     fn index_call(&mut self, call: Call, counts: &mut BoardCounts) {
@@ -134,7 +135,8 @@ impl Pair {
 
     /// A job of the array's years; one in eight has a year, a month or a number that is bad, or several.
     fn job(&self, r: &mut Random) -> Job {
-        let mut job = Job { year: self.year(r), month: month(r), number: number(r) };
+        let (year, month) = (self.year(r), month(r));
+        let mut job = Job { year, month, number: number(r, year, month) };
         if r.chance(8) {
             let which = 1 + r.below(7);
             job.year = if which & 1 != 0 { bad(r, 10_000, 1 << 48, job.year) } else { job.year };
@@ -159,14 +161,14 @@ impl Pair {
     /// A key that is no job's, often close to one: of month 0 or 13 to 15, of year 0 or 10,000, or with
     /// the bits of a job below others.
     fn other_key(&self, r: &mut Random) -> u64 {
-        let of = |year, month, number| year * 65_536 + month * 4_096 + number;
-        match r.below(5) {
-            0 => of(self.year(r), no_month(r), number(r)),
-            1 => of(0, month(r), number(r)),
-            2 => of(10_000 + r.below(2), month(r), number(r)),
-            3 => of(self.year(r), month(r), number(r)) | (1 + r.below(9)) << 32,
-            _ => key(r),
-        }
+        let (year, month) = match r.below(5) {
+            0 => (self.year(r), no_month(r)),
+            1 => (0, month(r)),
+            2 => (10_000 + r.below(2), month(r)),
+            3 => (self.year(r) | (1 + r.below(9)) << 16, month(r)),
+            _ => return key(r),
+        };
+        key_of(year, month, number(r, year, month))
     }
 }
 
@@ -182,15 +184,20 @@ fn no_month(r: &mut Random) -> u64 {
     [0, 13, 14, 15][r.below(4) as usize]
 }
 
-/// A number: small, at the end, any, or one of those that share a window.
-fn number(r: &mut Random) -> u64 {
-    match r.below(6) {
+/// A number for a job of this month: small, at the end, any, or one of those that share a window.
+fn number(r: &mut Random, year: u64, month: u64) -> u64 {
+    match r.below(7) {
         0 => r.below(12),
         1 => 4095 - r.below(3),
         2 => r.below(4096),
-        3 => 7 + 16 * r.below(40),
-        _ => 7 + 64 * r.below(40),
+        3 => number_with(year, month, 7 + 16 * r.below(40)),
+        _ => number_with(year, month, 7 + 64 * r.below(40)),
     }
+}
+
+/// The number with which the folded key of a job of this month has these twelve low bits.
+fn number_with(year: u64, month: u64, bits: u64) -> u64 {
+    unfolded((folded(key_of(year, month, 0)) ^ bits) % 4096)
 }
 
 /// Mostly a number that is out of range: the first behind it, the last of all, any, or one so far behind a
@@ -235,23 +242,23 @@ fn run(r: &mut Random, steps: u64, damaged_steps: u64, counts: &mut BoardCounts)
 
 /// The place of the key's entry in a directory of depth 12.
 fn entry_at_depth_12(key: u64) -> usize {
-    4096 + ((key >> 4 & 0xfff) as u16).reverse_bits() as usize / 16
+    4096 + ((folded(key) >> 4 & 0xfff) as u16).reverse_bits() as usize / 16
 }
 
-/// A directory of depth 12, in which no job reaches the entries of the months 0 and 13 to 15. First one of
-/// these is put out of range, which no print may see, then any entry.
+/// A directory of depth 12, in which no job of one year reaches the entries that its months 0 and 13 to 15 would
+/// have. First one of these is put out of range, which no print of the year may see, then any entry.
 fn deep(r: &mut Random, counts: &mut BoardCounts) {
     let s = 1 + r.below(8);
     let mut words = vec![0; (8192 + 128 * s) as usize];
-    words[0] = 12 | 12 << 8 | s << 16 | 0x5041_4745 << 32;
+    words[0] = first_word(12, 12, s);
     let mut pair = Pair::new(words, r);
     for _ in 0..60 {
         pair.step(r, counts);
     }
     pair.index_call(Call::Mend(u32::MAX), counts);
-    let out_of_range = if r.chance(2) { s } else { 13 << 32 };
-    pair.spoil(entry_at_depth_12(no_month(r) * 4096 + r.below(4096)), out_of_range);
-    counts.beside_damage += pair.print(pair.year(r), r, counts) as u64;
+    let (year, out_of_range) = (pair.year(r), if r.chance(2) { s } else { 13 << 32 });
+    pair.spoil(entry_at_depth_12(key_of(year, no_month(r), r.below(4096))), out_of_range);
+    counts.beside_damage += pair.print(year, r, counts) as u64;
     pair.spoil(4096 + r.below(4096) as usize, out_of_range);
     pair.print(pair.year(r), r, counts);
     for _ in 0..8 {
@@ -269,18 +276,18 @@ fn random_array(r: &mut Random, counts: &mut BoardCounts) {
 }
 
 /// A print of a year with all its jobs, in an array made by hand: a segment for each entry of a directory of
-/// depth 12, and in each bucket another key in front of the job's.
+/// depth 12, and in each bucket another key of that bucket in front of the job's.
 fn full_year(r: &mut Random, counts: &mut BoardCounts) {
     let year = 1 + r.below(9999);
     let mut words = vec![0; 8192 + 128 * 4096];
-    words[0] = 12 | 12 << 8 | 4096 << 16 | 0x5041_4745 << 32;
+    words[0] = first_word(12, 12, 4096);
     for entry in 0..4096 {
         words[4096 + entry] = entry as u64 | 12 << 32;
     }
-    for low in 4096..13 * 4096 {
-        let segment = entry_at_depth_12(low) - 4096;
-        let at = 8192 + 128 * segment + 8 * (low % 16) as usize;
-        words[at..at + 4].copy_from_slice(&[low, 1, year * 65_536 + low, pages(r)]);
+    for key in key_of(year, 1, 0)..key_of(year, 13, 0) {
+        let segment = entry_at_depth_12(key) - 4096;
+        let at = 8192 + 128 * segment + 8 * (folded(key) % 16) as usize;
+        words[at..at + 4].copy_from_slice(&[key | 1 << 32, 1, key, pages(r)]);
     }
     Pair::new(words, r).print(year, r, counts);
 }
@@ -303,7 +310,7 @@ pub fn compare_board(r: &mut Random, rounds: u64, counts: &mut BoardCounts) {
 /// Prints what was counted; false where a wanted reply never came.
 pub fn report(counts: &BoardCounts) -> bool {
     let board = &counts.board;
-    println!("board calls {}, cut {}, on damaged or random arrays {}", board.calls, board.cut, board.damaged);
+    println!("board calls {}", board.said());
     println!("prints beside an entry out of range {}, calls of the index between {}", counts.beside_damage, counts.index.calls);
     for ((call, code), count) in &board.codes {
         println!("board {call} {code}: {count}");
@@ -313,5 +320,5 @@ pub fn report(counts: &BoardCounts) -> bool {
     if !missing.is_empty() {
         println!("never came from the board: {missing:?}");
     }
-    missing.is_empty() && counts.beside_damage > 0
+    missing.is_empty() && counts.beside_damage > 0 && board.old > 0
 }

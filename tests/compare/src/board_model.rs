@@ -22,8 +22,12 @@ fn key(job: Job) -> Result<u64, u32> {
     let good = [(1..=9999).contains(&job.year), (1..=12).contains(&job.month), (0..=4095).contains(&job.number)];
     match good.iter().position(|&is_good| !is_good) {
         Some(first_bad) => Err(11 + first_bad as u32),
-        None => Ok(job.year * 65_536 + job.month * 4_096 + job.number),
+        None => Ok(key_of(job.year, job.month, job.number)),
     }
+}
+
+pub fn key_of(year: u64, month: u64, number: u64) -> u64 {
+    year * 65_536 + month * 4_096 + number
 }
 
 /// Makes a call on the array.

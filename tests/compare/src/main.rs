@@ -33,10 +33,17 @@ struct Counts {
     calls: u64,
     cut: u64,
     damaged: u64,
+    /// Calls on an array whose word 0 has the old mark.
+    old: u64,
     codes: std::collections::BTreeMap<(&'static str, u32), u64>,
 }
 
 impl Counts {
+    fn said(&self) -> String {
+        let Counts { calls, cut, damaged, old, .. } = self;
+        format!("{calls}, cut {cut}, on damaged or random arrays {damaged}, with the old mark {old}")
+    }
+
     fn count(&mut self, call: &'static str, got: Answer) {
         self.calls += 1;
         self.cut += (got.code == model::CUT_OFF) as u64;
@@ -82,6 +89,7 @@ const UNWRITTEN: u64 = 0x1111_2222_3333_4444;
 fn compare(ours: &mut [u64], theirs: &mut [u64], call: Call, room: usize, counts: &mut Counts) -> Answer {
     let mut list = vec![UNWRITTEN; room];
     let mut due_list = list.clone();
+    counts.old += has_old_mark(ours) as u64;
     let got = made(ours, &mut list, call);
     let due = model::perform(theirs, &mut due_list, call);
     assert_eq!(got, due, "{call:?}: the answers differ");
@@ -91,13 +99,33 @@ fn compare(ours: &mut [u64], theirs: &mut [u64], call: Call, room: usize, counts
     got
 }
 
-/// A key: running numbers, numbers that share a window, or any number, now and then 0.
+/// The mark that document 01 has and document 02's wish 4 replaces.
+const OLD_MARK: u64 = 0x5041_4745;
+
+fn has_old_mark(words: &[u64]) -> bool {
+    words.first().is_some_and(|word| word >> 32 == OLD_MARK)
+}
+
+fn with_old_mark(word: u64) -> u64 {
+    word & 0xffff_ffff | OLD_MARK << 32
+}
+
+/// The key that has this folded key.
+fn unfolded(folded: u64) -> u64 {
+    let key = (0..7).fold(0, |key, i| key ^ folded >> (10 * i));
+    assert_eq!(model::folded(key), folded);
+    key
+}
+
+/// A key: running numbers, numbers that share a window when folded, numbers in steps of 1,024, or any number,
+/// now and then 0.
 fn key(r: &mut Random) -> u64 {
     match r.below(8) {
         0..=2 => r.below(200),
-        3..=4 => 7 + 16 * r.below(100),
-        5 => 15 + 64 * r.below(40),
-        6 => 0xfff0 + r.below(16) + 65536 * r.below(5),
+        3..=4 => unfolded(7 + 16 * r.below(100)),
+        5 => unfolded(15 + 64 * r.below(40)),
+        6 => unfolded(0xfff0 + r.below(16) + 65536 * r.below(5)),
+        _ if r.chance(2) => 1024 * r.below(200),
         _ => r.next(),
     }
 }
@@ -143,12 +171,13 @@ fn damage(words: &mut [u64], r: &mut Random) {
         1 => r.below(64.min(words.len() as u64)) as usize,
         _ => r.below(words.len() as u64) as usize,
     };
-    words[at] = match r.below(6) {
+    words[at] = match r.below(7) {
         0 => r.next(),
         1 => 0,
         2 => words[at] ^ 1 << r.below(64),
         3 => r.below(6) | r.below(5) << 32,
         4 => key(r),
+        5 => with_old_mark(words[at]),
         _ => words[r.below(words.len() as u64) as usize],
     };
 }
@@ -182,7 +211,7 @@ fn run(r: &mut Random, steps: u64, damaged: bool, counts: &mut Counts) {
     }
 }
 
-/// Random words with a likely word 0, or with none.
+/// Random words with a likely word 0, one in ten with the old mark, or with none.
 fn random_words(r: &mut Random) -> Vec<u64> {
     let d = r.below(14);
     let s = r.below(20);
@@ -190,7 +219,8 @@ fn random_words(r: &mut Random) -> Vec<u64> {
     let mut words: Vec<u64> = (0..size).map(|_| if r.chance(3) { r.next() } else { r.below(20) | r.below(5) << 32 }).collect();
     if let Some(first) = words.first_mut() {
         if !r.chance(10) {
-            *first = r.below(d + 2) | d << 8 | s << 16 | 0x5041_4745 << 32;
+            let likely = model::first_word(r.below(d + 2), d, s);
+            *first = if r.chance(10) { with_old_mark(likely) } else { likely };
         }
     }
     words
@@ -223,10 +253,11 @@ fn main() {
             random_array(r, &mut counts);
         }
     }
-    println!("calls {}, cut {}, on damaged or random arrays {}", counts.calls, counts.cut, counts.damaged);
+    println!("calls {}", counts.said());
     for ((call, code), count) in &counts.codes {
         println!("{call} {code}: {count}");
     }
+    assert!(counts.old > 0, "no word 0 had the old mark");
     let mut counts = board::BoardCounts::default();
     for &seed in &seeds {
         board::compare_board(&mut Random(seed), rounds, &mut counts);

@@ -5,7 +5,7 @@ pub const DONE: u32 = 0;
 pub const CUT_OFF: u32 = 7;
 pub const ABSENT: u32 = 255;
 
-const MARK: u64 = 0x5041_4745;
+const MARK: u64 = 0x5041_4746;
 
 /// One call with its arguments.
 #[derive(Clone, Copy, Debug)]
@@ -71,9 +71,20 @@ fn shape(words: &[u64]) -> Option<Shape> {
     (sound && words.len() as u64 >= (2 << d) + 128 * s).then_some(Shape { g, d, s })
 }
 
+/// Word 0 with these G, D and S.
+pub fn first_word(g: u64, d: u64, s: u64) -> u64 {
+    g | d << 8 | s << 16 | MARK << 32
+}
+
+/// The folded key, from which bucket and route are taken (document 02, wish 4).
+pub fn folded(key: u64) -> u64 {
+    key ^ key / 1024
+}
+
 /// The first `count` route bits of a key, in order.
 fn route(key: u64, count: u64) -> Vec<bool> {
-    (0..count).map(|i| key >> (4 + i) & 1 == 1).collect()
+    let folded = folded(key);
+    (0..count).map(|i| folded >> (4 + i) & 1 == 1).collect()
 }
 
 /// The bits of an index of `width` bits, the heaviest first.
@@ -115,7 +126,7 @@ fn slot_address(shape: Shape, segment: u64, slot: usize) -> usize {
 }
 
 fn window(key: u64) -> impl Iterator<Item = usize> {
-    let first = 4 * (key % 16) as usize;
+    let first = 4 * (folded(key) % 16) as usize;
     (0..16).map(move |i| (first + i) % 64)
 }
 
@@ -158,7 +169,7 @@ fn format(draft: &mut Draft, d: u64, s: u64) -> u32 {
     for slot in 0..64 {
         draft.store((2 << d) + 2 * slot, 0);
     }
-    draft.store(0, d << 8 | s << 16 | MARK << 32);
+    draft.store(0, first_word(0, d, s));
     DONE
 }
 
