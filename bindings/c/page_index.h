@@ -19,6 +19,15 @@
  * made. After a power cut call page_index_mend until it answers PAGE_INDEX_DONE; then every page that
  * was put and acknowledged is found, and the call that was cut off has either happened in full or not
  * at all. A format that was cut off is begun anew. The memory must take the stores in program order.
+ *
+ * Keys. Every number but 0 is a key. Where it goes is taken from the low 4 + `depth` bits of its folded
+ * key, key ^ key / 1024; the array holds the key itself.
+ *
+ * A store with the old mark. Before keys were folded, bits 32 to 63 of word 0 were 0x50414745 (now
+ * 0x50414746), and pages stood where this library does not look. Every call but format answers such a
+ * store with PAGE_INDEX_NO_STORE and changes no word of it. It is entered anew: list it with the library
+ * that made it and keep the records elsewhere, format the array, put every record, and give up the list
+ * when each put was answered PAGE_INDEX_DONE. Format empties a store: what was not listed is lost.
  */
 #ifndef PAGE_INDEX_H
 #define PAGE_INDEX_H
@@ -33,7 +42,8 @@ extern "C" {
 /* The code of an answer. The board is that of month_board.h. */
 enum page_index_code {
     PAGE_INDEX_DONE = 0,
-    PAGE_INDEX_NO_STORE = 1,   /* word 0 is not that of an index, or the array is too short for it */
+    PAGE_INDEX_NO_STORE = 1,   /* word 0 is not that of an index, or has the old mark, or the array is
+                                  too short for it */
     PAGE_INDEX_NO_KEY = 2,     /* the key is 0 */
     PAGE_INDEX_BROKEN = 3,     /* the directory is damaged */
     PAGE_INDEX_UNMENDED = 4,   /* a split was cut off: mend first */

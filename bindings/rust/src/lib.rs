@@ -6,6 +6,12 @@
 //! leaves the array as an allowance of so many stores would; after one, [`mend`] until it is done.
 //! [`board`] keeps the pages of jobs, by year, month and number, in an array of its own.
 //!
+//! Every number but 0 is a key. Where it goes is taken from the low bits of its folded key,
+//! `key ^ key / 1024`; the array holds the key itself. A store of before keys were folded has the mark
+//! 0x50414745 in the upper half of word 0, in place of 0x50414746: every call but [`format`] refuses it with
+//! [`Refusal::NoStore`] and changes nothing. It is entered anew: listed by the library that made it,
+//! formatted, and every record put again. [`format`] empties a store: what was not listed is lost.
+//!
 //! ```
 //! use page_index::{format, get, list, mend, put, remove, Refusal};
 //!
@@ -38,7 +44,7 @@ use std::fmt;
 #[derive(Clone, Copy, Debug, PartialEq, Eq, Hash)]
 #[repr(u32)]
 pub enum Refusal {
-    /// Word 0 is not that of an index, or the array is too short for it.
+    /// Word 0 is not that of an index, or has the old mark, or the array is too short for it.
     NoStore = 1,
     /// The key is 0.
     NoKey = 2,
