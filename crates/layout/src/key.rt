@@ -9,7 +9,7 @@ ghost use Rattle.rules.specs.Keys.{bucket, directoryBits, firstBits, blockBits}
 // the last one being 0.
 const REVERSED: u64 = 0xF7B3D591E6A2C480;
 
-// The weight of the lowest bit of a key that folding brings down to its low ones.
+// What a key is divided by in its folded key.
 const FOLD_UNIT: u64 = 1024;
 
 // A key's bucket, and its directory bits as one number, the first bit lowest.

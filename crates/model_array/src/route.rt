@@ -9,7 +9,7 @@ const BUCKETS: u64 = 16;
 
 const BUCKET_SLOTS: u32 = 4;
 
-// What a key is divided by for its folded key.
+// What a key is divided by in its folded key.
 const FOLD: u64 = 1024;
 
 // Document 02's folded key: the exclusive or, bit by bit, of the key and floor(key / 1,024).
@@ -18,7 +18,7 @@ fn folded(key: u64) -> u64 {
 }
 
 // The key whose folded key is this number, for a test that chooses where its keys go: the exclusive or of
-// the number and of its quotients by 1,024, by its square and so on, two, four and then all of them.
+// the number shifted down by 0, 10, 20 .. 60 bits, here of two, of four and then of all.
 pub fn unfolded(number: u64) -> u64 {
     let two = number ^ (number / FOLD);
     let four = two ^ (two >> 20);
