@@ -17,11 +17,11 @@ use Rattle.rules.proofs.States.{F, P, fill, stands, names, page, missin
 -- ---- Damage to an index of D = 2, S = 4
 
 -- Word 0 with these G, D and S; and with present depth G.
-abbrev first : (G D S : ℕ) → Store
-first G D S = store 0 (0x5041474600000000 + 0x10000 * S + 0x100 * D + G)
+abbrev word₀ : (G D S : ℕ) → Store
+word₀ G D S = store 0 (0x5041474600000000 + 0x10000 * S + 0x100 * D + G)
 
 abbrev present : (G : ℕ) → Store
-present G = first G 2 4
+present G = word₀ G 2 4
 
 -- Entry i of the directory of depth 1 or 2, which start at words 2 and 4, names segment s with local depth L.
 abbrev entry₁ : (i s L : ℕ) → Store
@@ -100,7 +100,7 @@ slotOf s j key = store (16 + 128 * s + 2 * j) key ∷ store (17 + 128 * s + 2 * 
 -- it is stale there.
 abbrev mixedOrders : List Store
 mixedOrders =
-    first 3 3 4 ∷ entry₃ 0 2 1 ∷ entry₃ 1 2 1 ∷ entry₃ 2 2 1 ∷ entry₃ 3 2 1 ∷ entry₃ 4 0 2 ∷ entry₃ 5 0 2 ∷ entry₃ 6 3 3
+    word₀ 3 3 4 ∷ entry₃ 0 2 1 ∷ entry₃ 1 2 1 ∷ entry₃ 2 2 1 ∷ entry₃ 3 2 1 ∷ entry₃ 4 0 2 ∷ entry₃ 5 0 2 ∷ entry₃ 6 3 3
     ∷ entry₃ 7 1 3
     ∷ slotOf 2 4 1025 ++ slotOf 2 12 19 ++ slotOf 2 20 5 ++ slotOf 0 0 80 ++ slotOf 0 63 31 ++ slotOf 3 8 306 ++ slotOf 3 9 50 ++ slotOf 1 1 112
 
@@ -166,10 +166,10 @@ samples =
     ∷ damaged (four 0 2 1 1 1 1 2 2) (P 7) (refused 3) 0 [] [] []
     -- 1 before 2: no mark; G above D; S above 2^D; D above 12; an array too short by one word; an array of no words
     ∷ damaged (store 0 0 ∷ []) (P 0) (refused 1) 0 [] [] (record { key = 0; said = refused 1 } ∷ [])
-    ∷ damaged (first 3 2 4 ∷ []) (P 7) (refused 1) 0 [] [] []
-    ∷ damaged (first 0 2 5 ∷ []) (Mend 10000) (refused 1) 0 [] [] []
-    ∷ unlisted (F 4 ∷ []) (first 0 13 4 ∷ []) 1 2
-    ∷ state 519 [] (first 0 2 4 ∷ []) (Remove 7 10000) (refused 1) 0 [] [] []
+    ∷ damaged (word₀ 3 2 4 ∷ []) (P 7) (refused 1) 0 [] [] []
+    ∷ damaged (word₀ 0 2 5 ∷ []) (Mend 10000) (refused 1) 0 [] [] []
+    ∷ unlisted (F 4 ∷ []) (word₀ 0 13 4 ∷ []) 1 2
+    ∷ state 519 [] (word₀ 0 2 4 ∷ []) (Remove 7 10000) (refused 1) 0 [] [] []
     ∷ row 0 [] (P 7) (refused 1) 0 [] [] []
     ∷ row 0 [] (F 4) (refused 9) 0 [] [] []
     -- the old mark: 1 from every call but format, which makes a new store of it
