@@ -156,7 +156,7 @@ Scene many_splits() {
     Scene scene;
     for (int k = 0; k < 5; k++) {
         word bits = 0xfff0 - (16u << k);
-        scene.add_segment(twin::segment_of(bits), 100 * k);
+        scene.add_segment(twin::keys_of_segment(bits), 100 * k);
         scene.add_splitting(5 * 65536 + bits - 0x8000);
     }
     return scene;

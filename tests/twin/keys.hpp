@@ -34,7 +34,7 @@ constexpr Job job_with(word year, word month, word bits) {
 }
 
 // Sixty-four keys that fill a segment, four of each bucket: their folded keys share bits 4 to 15, given as `bits`.
-constexpr std::array<word, 64> segment_of(word bits) {
+constexpr std::array<word, 64> keys_of_segment(word bits) {
     std::array<word, 64> keys{};
     for (word i = 0; i < 64; i++) keys[i] = unfolded(i / 16 * 65536 + bits + i % 16);
     return keys;
@@ -42,6 +42,6 @@ constexpr std::array<word, 64> segment_of(word bits) {
 
 // The put with the most stores: with D = 12 and S = 13, of this key behind those that fill segment 0.
 constexpr word worst_key = unfolded(5 * 65536 + 0x7ff0);
-constexpr std::array<word, 64> before_worst = segment_of(0xfff0);
+constexpr std::array<word, 64> before_worst = keys_of_segment(0xfff0);
 
 }  // namespace twin

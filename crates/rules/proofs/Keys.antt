@@ -26,6 +26,12 @@ pub folded-xor : (key : ℕ) → folded key ≡ bitXor key (key / 1024)
 unfolding folded
 folded-xor key = refl
 
+-- Bit by bit: bit i of the folded key is 1 where just one of the bits i and i + 10 of the key is.
+pub folded-bit : (key i : ℕ) → folded key / 2 ^ i % 2 ≡ (key / 2 ^ i % 2 + key / 2 ^ (10 + i) % 2) % 2
+folded-bit key i =
+    let high : key / 1024 / 2 ^ i ≡ key / 2 ^ (10 + i) = div-div-eq-div-mul key 1024 (2 ^ i) ∙ ap (λ (n : ℕ). key / n) (sym (pow-add 2 10 i)) in
+    rw (folded-xor, xor-shr key (key / 1024) i, high) (omega (arith, xor-add-and (key / 2 ^ i) (key / 2 ^ (10 + i))))
+
 -- The folded key of a key of 64 bits has 64 bits.
 pub folded-lt : (key : ℕ) → key < 2 ^ 64 → folded key < 2 ^ 64
 folded-lt key h = rw folded-xor (xor-lt 64 key (key / 1024) h (omega arith))
@@ -49,6 +55,7 @@ folded-high : (key : ℕ) → folded key / 1024 ≡ folded (key / 1024)
 unfolding folded
 folded-high key = xor-shr key (key / 1024) 10
 
+-- The parts above the ten low bits are the same, by induction on a bound of the keys; then so is what they are folded with.
 folded-apart : (n k o : ℕ) → k ≤ n → o ≤ n → folded k ≡ folded o → k ≡ o
 folded-apart zero k o hk ho e = omega arith
 folded-apart (suc n) k o hk ho e =
@@ -63,6 +70,22 @@ folded-injective k o = folded-apart (k + o) k o (omega arith) (omega arith)
 
 pub folded-zero : (key : ℕ) → folded key ≡ 0 → key ≡ 0
 folded-zero key e = folded-injective key 0 (e ∙ sym (folded-small 0 (omega arith)))
+
+pub bucket-mod : (key : ℕ) → bucket key ≡ folded key % 16
+unfolding bucket
+bucket-mod key = refl
+
+pub bits-div : (key : ℕ) → directoryBits key ≡ folded key / 16
+unfolding directoryBits
+bits-div key = refl
+
+-- Of a key below 1,024 bucket and directory bits are those of document 01, so that its states b to h, which have no other keys, are
+-- as they were before document 02's wish 4.
+pub bucket-small : (key : ℕ) → key < 1024 → bucket key ≡ key % 16
+bucket-small key h = rw (bucket-mod, folded-small key h)
+
+pub bits-small : (key : ℕ) → key < 1024 → directoryBits key ≡ key / 16
+bits-small key h = rw (bits-div, folded-small key h)
 
 -- ---- Directory bits as an index
 
@@ -310,10 +333,6 @@ window-slot key b j h k =
 
 -- ---- For the code
 
-pub bucket-mod : (key : ℕ) → bucket key ≡ folded key % 16
-unfolding bucket
-bucket-mod key = refl
-
 pub windowBucket-mod : (key b : ℕ) → windowBucket key b ≡ (bucket key + b) % 16
 unfolding windowBucket
 windowBucket-mod key b = refl
@@ -325,18 +344,6 @@ slots-each b = refl
 pub window-each : (key : ℕ) → window key ≡ each (λ b. slotsOf (windowBucket key b)) 4
 unfolding window
 window-each key = refl
-
-pub bits-div : (key : ℕ) → directoryBits key ≡ folded key / 16
-unfolding directoryBits
-bits-div key = refl
-
--- Of a key below 1,024 bucket and directory bits are those of document 01, so that its states b to h, which have no other keys, are
--- as they were before document 02's wish 4.
-pub bucket-small : (key : ℕ) → key < 1024 → bucket key ≡ key % 16
-bucket-small key h = rw (bucket-mod, folded-small key h)
-
-pub bits-small : (key : ℕ) → key < 1024 → directoryBits key ≡ key / 16
-bits-small key h = rw (bits-div, folded-small key h)
 
 -- Directory bit number i of a key by a shift.
 pub bit-shift : (key i : ℕ) → bit key i ≡ directoryBits key / 2 ^ i % 2

@@ -119,8 +119,8 @@ fn put_263(allowance: u32) -> Call {
     Call::Put(263, 1, allowance)
 }
 
-// The put of state i, whose key folds to 1030, and one whose key folds to 1031: as the sixteen before it,
-// which it follows in their window and on their route.
+// The put of state i, whose key folds to 1030, and one whose key folds to 1031, which has the window and
+// the first two route bits of the sixteen before it.
 const PUT_1031: Call = Call::Put(1031, 1, ALLOWANCE);
 
 const PUT_1030: Call = Call::Put(1030, 1, ALLOWANCE);
