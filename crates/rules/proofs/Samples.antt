@@ -38,7 +38,7 @@ four s₀ L₀ s₁ L₁ s₂ L₂ s₃ L₃ = present 2 ∷ entry₂ 0 s₀ L�
 abbrev slot : (j key : ℕ) → List Store
 slot j key = store (8 + 2 * j) key ∷ store (9 + 2 * j) (10 * key) ∷ []
 
--- What makes a store of before document 02's wish 4: the old mark; with page 7 in it.
+-- Word 0 with the mark of before document 02's wish 4, and page 7.
 abbrev oldStore : List Store
 oldStore = store 0 0x5041474500040200 ∷ slot 28 7
 

@@ -12,7 +12,7 @@ use Rattle.stores.specs.Lists.{each}
 -- ---- A key, opened
 
 -- The folded key: the exclusive or, bit by bit, of the key and floor(key / 1,024). Bucket and directory bits are taken from it. A
--- slot holds the key itself, and keys are compared, and with 0, as they stand.
+-- slot holds the key itself, and keys are compared, with one another and with 0, as they stand.
 unfoldable pub folded : ℕ → ℕ
 folded key = bitXor key (key / 1024)
 

@@ -9,7 +9,7 @@ use Rattle.stores.specs.Store.{word}
 
 -- ---- Word 0
 
--- The mark in bits 32 to 63 of word 0, as document 02's wish 4 has it: a store with the mark of before is none.
+-- The mark in bits 32 to 63 of word 0 (document 02, wish 4). With document 01's, 0x50414745, an array is no store.
 abbrev pub mark : ℕ
 mark = 0x50414746
 

@@ -149,7 +149,7 @@ fn shape_in(first: u64) -> Shape {
     }
 }
 
-// Word 0 with one field more or less by one, the mark less, which is the one of before, or another word.
+// Word 0 with one field more or less by one, of which the mark becomes document 01's, or another word.
 fn spoiled_first(first: u64, roll: u64) -> u64 {
     match roll % 10 {
         0 => wrapping_add_u64(first, 1),
