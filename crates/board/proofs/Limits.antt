@@ -1,4 +1,5 @@
--- The board's calls, within the index's limits: range, locality, the bound on stores, and refusals that change nothing.
+-- The board's calls, within the index's limits: range, locality, the bound on stores, refusals that change nothing, and how much one
+-- number can change.
 -- Assumes nothing.
 use Prim.Native.Nat.{ℕ, _≤_}
 use mathlib.Core.Path.{_≡_, refl}
@@ -16,10 +17,12 @@ use Rattle.rules.specs.declared.Call.{Call}
 use Rattle.rules.specs.declared.Call.the-variants.{Get, Put}
 use Rattle.rules.specs.Get.{get}
 use Rattle.rules.specs.Step.{effect, step, outcomeOf}
+use Rattle.rules.specs.OneNumber.{AtMostOneWord, oneMore, SameButOneWord}
 use Rattle.rules.proofs.Range.{step-length, extent, step-untouched}
 use Rattle.rules.proofs.Local.{Alike, SameOutcome, step-local}
 use Rattle.rules.proofs.Bound.{put-bound}
 use Rattle.rules.proofs.Refusals.{Unchanged, refusal-unchanged}
+use Rattle.rules.proofs.OneNumber.{at-most-one, one-more-allowed, other-value}
 use Rattle.board.specs.Jobs.{jobKey, jobTests, behind, onJob, setJob}
 use Rattle.board.specs.Print.{monthLookups, yearLookups, printOver, allNumbers, printYear}
 
@@ -76,6 +79,34 @@ pub set-bound : (a : List ℕ) (year month number pages allowance : ℕ) → (se
 set-bound a year month number pages allowance =
     job-law a year month number (λ key. Put key pages allowance) (λ o. o .made ≤ 9764) (λ r. omega arith)
     (put-made a (jobKey year month number) pages allowance)
+
+-- ---- How much one number can change
+
+-- An allowance larger by one changes at most one word.
+pub job-one-more : (a : List ℕ) (year month number : ℕ) (call : ℕ → Call)
+    → AtMostOneWord ((onJob a year month number call) .after) ((onJob a year month number (λ key. oneMore (call key))) .after)
+unfolding onJob behind
+job-one-more a year month number call = go (jobTests year month number)
+  where
+    key : ℕ
+    key = jobKey year month number
+
+    go : (t : Option Refusal) → AtMostOneWord ((behind t a (outcomeOf a (call key))) .after) ((behind t a (outcomeOf a (oneMore (call key)))) .after)
+    go none = one-more-allowed a [] (call key)
+    go (some r) = at-most-one none a a refl
+
+-- A set with another number of pages has the same reply and the same store count, and changes at most one word.
+pub set-other-pages : (a : List ℕ) (year month number v w allowance : ℕ)
+    → SameButOneWord (setJob a year month number v allowance) (setJob a year month number w allowance)
+unfolding onJob behind
+set-other-pages a year month number v w allowance = go (jobTests year month number)
+  where
+    put : (pages : ℕ) → Call
+    put pages = Put (jobKey year month number) pages allowance
+
+    go : (t : Option Refusal) → SameButOneWord (behind t a (outcomeOf a (put v))) (behind t a (outcomeOf a (put w)))
+    go none = other-value a [] (jobKey year month number) v w allowance
+    go (some r) = record { reply = refl; made = refl; words = at-most-one none a a refl }
 
 -- ---- A print
 

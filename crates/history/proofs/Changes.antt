@@ -20,8 +20,9 @@ use Rattle.rules.specs.Slots.{hit}
 use Rattle.rules.proofs.Words.{Within, within-inside, key-within, value-within, entry-inside, segments-disjoint}
 use Rattle.rules.proofs.Keys.{live-nonzero, live-empty, window-lt}
 use Rattle.rules.proofs.Blocks.{bitsAt}
+use Rattle.rules.proofs.Slots.{hit-none, hit-window, hit-key, key-after-value, key-after-key}
 use Rattle.runs.specs.Map.{Map, updated}
-use Rattle.history.proofs.Holds.{Holds, hit-none, hit-window, hit-key, key-after-value, key-after-key, holds-new-value, holds-new-key, holds-removed, holds-other-value, holds-other-key}
+use Rattle.history.proofs.Holds.{Holds, holds-new-value, holds-new-key, holds-removed, holds-other-value, holds-other-key}
 use Rattle.history.proofs.Invariant.{Inv, LiveAt, BlockChanged, baseAt}
 
 -- ---- The map with another value for one key

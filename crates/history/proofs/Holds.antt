@@ -6,17 +6,16 @@ use mathlib.Core.List.{List, List·Memᴰ}
 use mathlib.Core.Option.{Option, none, some}
 use mathlib.Core.Logic.{⊎-elim}
 use Prim.Native.Nat.{ℕ, _<_}
-use native.Mathlib.Omega.{arith}
 use borrow.Author.Tests.{eqb-true, eqb-false}
 use lib.Dec.{eqb}
 use lib.ListN.{length, set}
 use Rattle.stores.proofs.Tests.{cases}
-use Rattle.stores.proofs.Lists.{first-same, first-some, first-none}
-use Rattle.stores.proofs.Stores.{word-set-same, word-set-other}
+use Rattle.stores.proofs.Stores.{word-set-same}
 use Rattle.rules.specs.Layout.{keyAddress, valueAddress, keyAt, valueAt}
 use Rattle.rules.specs.Keys.{window}
 use Rattle.rules.specs.Slots.{hit}
 use Rattle.rules.specs.Get.{valueAtHit}
+use Rattle.rules.proofs.Slots.{hit-none, hit-window, hit-key, key-after-value, value-after-value, value-after-key, key-after-key, only-after-key}
 use Rattle.runs.specs.Map.{mapSays}
 
 -- Exactly one slot of the key's probe window, in the segment at `base`, has the key, and it has the value v.
@@ -33,20 +32,6 @@ Holds none a base key = (j : ℕ) → List·Memᴰ j (window key) → keyAt a ba
 Holds (some v) a base key = HoldsAt v a base key
 
 -- ---- The search for the key
-
-pub hit-none : (a : List ℕ) (base key : ℕ) → hit a base key ≡ none → Holds none a base key
-unfolding hit
-hit-none a base key e j m q =
-    let missed : eqb (keyAt a base j) key ≡ false = first-none (λ j. eqb (keyAt a base j) key) (window key) e j m in
-    eqb-false (keyAt a base j) key missed q
-
-pub hit-window : (a : List ℕ) (base key j : ℕ) → hit a base key ≡ some j → List·Memᴰ j (window key)
-unfolding hit
-hit-window a base key j e = first-some (λ j. eqb (keyAt a base j) key) (window key) j e .0
-
-pub hit-key : (a : List ℕ) (base key j : ℕ) → hit a base key ≡ some j → keyAt a base j ≡ key
-unfolding hit
-hit-key a base key j e = eqb-true (keyAt a base j) key (first-some (λ j. eqb (keyAt a base j) key) (window key) j e .1)
 
 -- Where a slot of the key's window has the key, the map has the slot's value.
 pub holds-value : (m : Option ℕ) (a : List ℕ) (base key j : ℕ) → Holds m a base key → List·Memᴰ j (window key) → keyAt a base j ≡ key
@@ -94,35 +79,6 @@ holds-same (some v) a base b base′ key back forth h =
       only = λ j w q. h .only j w (back j w q);
     }
 
-key-not-value : (base j k : ℕ) → keyAddress base j ≡ valueAddress base k → ⊥
-key-not-value base j k e = omega arith
-
-value-inj : (base j k : ℕ) → valueAddress base j ≡ valueAddress base k → j ≡ k
-value-inj base j k e = omega arith
-
-key-inj : (base j k : ℕ) → keyAddress base j ≡ keyAddress base k → j ≡ k
-key-inj base j k e = omega arith
-
--- A new value at slot j: keys stay, and the values of other slots.
-pub key-after-value : (a : List ℕ) (base j v k : ℕ) → keyAt (set a (valueAddress base j) v) base k ≡ keyAt a base k
-key-after-value a base j v k = word-set-other a (valueAddress base j) (keyAddress base k) v (key-not-value base k j)
-
-pub hit-after-value : (a : List ℕ) (base j v key : ℕ) → hit (set a (valueAddress base j) v) base key ≡ hit a base key
-unfolding hit
-hit-after-value a base j v key =
-    first-same _ _ (window key) (λ k w. ap (λ (x : ℕ). eqb x key) (key-after-value a base j v k))
-
-pub value-after-value : (a : List ℕ) (base j v k : ℕ) → (k ≡ j → ⊥) → valueAt (set a (valueAddress base j) v) base k ≡ valueAt a base k
-value-after-value a base j v k d =
-    word-set-other a (valueAddress base j) (valueAddress base k) v (λ e. d (value-inj base k j e))
-
--- A new key at slot j: values stay, and the keys of other slots.
-pub value-after-key : (a : List ℕ) (base j x k : ℕ) → valueAt (set a (keyAddress base j) x) base k ≡ valueAt a base k
-value-after-key a base j x k = word-set-other a (keyAddress base j) (valueAddress base k) x (λ e. key-not-value base j k (sym e))
-
-pub key-after-key : (a : List ℕ) (base j x k : ℕ) → (k ≡ j → ⊥) → keyAt (set a (keyAddress base j) x) base k ≡ keyAt a base k
-key-after-key a base j x k d = word-set-other a (keyAddress base j) (keyAddress base k) x (λ e. d (key-inj base k j e))
-
 -- The new value stored at the hit.
 pub holds-new-value : (m : Option ℕ) (a : List ℕ) (base key j v : ℕ) → valueAddress base j < length a → Holds m a base key
     → hit a base key ≡ some j
@@ -147,15 +103,8 @@ holds-new-key a base key j v inside w h q =
       in-window = w;
       has-key = word-set-same a (keyAddress base j) key inside;
       has-value = value-after-key a base j key j ∙ q;
-      only = only;
+      only = only-after-key a base key j h;
     }
-  where
-    only : (k : ℕ) → List·Memᴰ k (window key) → keyAt (set a (keyAddress base j) key) base k ≡ key → k ≡ j
-    only k u r =
-        ⊎-elim
-        (λ (t : eqb k j ≡ true). eqb-true k j t)
-        (λ (t : eqb k j ≡ false). absurd (h k u (sym (key-after-key a base j key k (eqb-false k j t)) ∙ r)))
-        (cases (eqb k j))
 
 -- The key word at the hit cleared.
 pub holds-removed : (m : Option ℕ) (a : List ℕ) (base key j : ℕ) → (key ≡ 0 → ⊥) → keyAddress base j < length a → Holds m a base key

@@ -21,10 +21,9 @@ use Rattle.rules.specs.Split.{splitting}
 use Rattle.rules.specs.Put.{put}
 use Rattle.rules.proofs.Words.{value-inside}
 use Rattle.rules.proofs.Keys.{index-lt, window-lt}
-use Rattle.rules.proofs.Slots.{IntoSlot}
+use Rattle.rules.proofs.Slots.{IntoSlot, key-after-value, hit-after-value}
 use Rattle.rules.proofs.Put.{choice-found, choice-into, keyHit, KeyInto, renewed, inserted, Cases, put-induction}
 use Rattle.runs.specs.Map.{Map, puts, fed, updated}
-use Rattle.history.proofs.Holds.{key-after-value, hit-after-value}
 use Rattle.history.proofs.Invariant.{Inv, Recovered, LiveAt, baseAt, live-above, live-own, block-changed, block-recovered, BlockChanged, shape-depth}
 use Rattle.history.proofs.Recover.{inv-put-tests, inv-key-entry, inv-key-segment}
 use Rattle.history.proofs.Kept.{Kept, Whole, whole-kept}

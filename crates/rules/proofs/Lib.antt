@@ -21,3 +21,4 @@ pub mod Full
 pub mod Range
 pub mod Listing
 pub mod Local
+pub mod OneNumber

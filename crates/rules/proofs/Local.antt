@@ -6,11 +6,10 @@ use mathlib.Core.List.{List, [], _∷_, _++_}
 use mathlib.Core.Option.{Option, none, some}
 use mathlib.Core.Logic.{⊎-elim}
 use Prim.Native.Nat.{ℕ, zero, suc, _+_, _/_, _^_, _≤_, _<_}
-use native.Mathlib.Nat.{suc-ne-zero, suc-inj}
 use native.Mathlib.Omega.{arith}
-use borrow.Author.Tests.{eqb-true, ne-eqb}
+use borrow.Author.Tests.{eqb-true}
 use lib.Dec.{eqb}
-use lib.ListN.{length, set, take, length-set}
+use lib.ListN.{length, take}
 use lib.Pow.{pow-mono}
 use Rattle.stores.specs.Lists.{pick, each}
 use Rattle.stores.specs.Store.{Store, word, store, apply, exec}
@@ -18,7 +17,7 @@ use Rattle.stores.specs.Plan.{Plan, Outcome, cut}
 use Rattle.stores.specs.Written.{atFront}
 use Rattle.stores.proofs.Tests.{cases}
 use Rattle.stores.proofs.Lists.{each-same, first-same, all-same, any-same}
-use Rattle.stores.proofs.Stores.{length-apply}
+use Rattle.stores.proofs.Stores.{length-apply, apply-same}
 use Rattle.replies.specs.declared.Refusal.{Refusal}
 use Rattle.replies.specs.declared.Refusal.the-variants.{NoStore, NoKey, Broken, Unmended}
 use Rattle.rules.specs.declared.Call.{Call}
@@ -37,11 +36,11 @@ use Rattle.rules.specs.Remove.{removeTests, clearedAt, remove}
 use Rattle.rules.specs.Mend.{mendTests, mendEntry, mending, mend}
 use Rattle.rules.specs.Listing.{liveRecord, blockRecords, records, listTests, list}
 use Rattle.rules.specs.Step.{Effect, changes, answers, effect, carriedOut, wordsBy, step}
-use Rattle.rules.proofs.Words.{ValidHeader, valid-header, header-valid, entry-inside, directories-below}
+use Rattle.rules.proofs.Words.{ValidHeader, valid-header, entry-inside, directories-below}
 use Rattle.rules.proofs.Keys.{index-lt}
 use Rattle.rules.proofs.Slots.{hit-same, choose-same}
 use Rattle.rules.proofs.Scan.{range-segment, leader-le, valid-at-segment}
-use Rattle.rules.proofs.Put.{unless-none, Passed, passed, put-refused, put-found, put-into, put-too-deep, put-no-segment, put-again, Cases, put-induction}
+use Rattle.rules.proofs.Put.{unless-none, Passed, passed, passed-none, put-refused, put-found, put-into, put-too-deep, put-no-segment, put-again, Cases, put-induction}
 use Rattle.rules.proofs.Range.{hit-slot, Sizes, ownSizes}
 use Rattle.rules.proofs.Halving.{keyUpdates}
 use Rattle.rules.proofs.Split.{Ready, ready, Splittable, AfterSplit, after-split}
@@ -82,27 +81,6 @@ writing-same = behind-same behindTests (λ r x y. refl)
 pick-same : {A : Type 0} (t : Bool) (x y z : A) → (t ≡ true → x ≡ y) → pick t x z ≡ pick t y z
 pick-same true x y z h = h refl
 pick-same false x y z h = refl
-
--- ---- The same stores on two arrays
-
--- Where two arrays of the same length have the same word, they have the same word there after the same stores.
-pub apply-same : (ss : List Store) (a b : List ℕ) (i : ℕ)
-    → length a ≡ length b → word a i ≡ word b i → word (apply ss a) i ≡ word (apply ss b) i
-unfolding apply
-apply-same [] a b i l h = h
-apply-same (s ∷ ss) a b i l h =
-    apply-same ss (set a (s .at) (s .value)) (set b (s .at) (s .value)) i
-    (length-set a (s .at) (s .value) ∙ l ∙ sym (length-set b (s .at) (s .value)))
-    (set-same a b (s .at) (s .value) i l h)
-  where
-    set-same : (a b : List ℕ) (j v i : ℕ) → length a ≡ length b → word a i ≡ word b i → word (set a j v) i ≡ word (set b j v) i
-    set-same [] [] j v i l h = refl
-    set-same [] (y ∷ b) j v i l h = absurd (suc-ne-zero (length b) (sym l))
-    set-same (x ∷ a) [] j v i l h = absurd (suc-ne-zero (length a) l)
-    set-same (x ∷ a) (y ∷ b) zero v zero l h = refl
-    set-same (x ∷ a) (y ∷ b) zero v (suc i) l h = h
-    set-same (x ∷ a) (y ∷ b) (suc j) v zero l h = h
-    set-same (x ∷ a) (y ∷ b) (suc j) v (suc i) l h = set-same a b j v i (suc-inj l) h
 
 -- ---- Arrays that agree
 
@@ -372,11 +350,6 @@ list-local {a} {b} s room =
     rw (records-local s (valid-header a (t₁ .0)) (t₂ .0)))
 
 -- ---- Put
-
--- What the passed tests say is enough for them to pass.
-passed-none : {a : List ℕ} {key : ℕ} → Passed a key → putTests a key ≡ none
-unfolding putTests keyTests directoryTests unless
-passed-none {a} {key} p = rw (header-valid (p .valid), ne-eqb key 0 (p .nonzero), p .leaders, p .agree)
 
 pub put-local : {a b : List ℕ} → Agree a b → (key value : ℕ) → put a key value ≡ put b key value
 put-local {a} {b} s key value = put-induction key value (λ a p. (b : List ℕ) → Agree a b → p ≡ put b key value) alike a b s

@@ -8,7 +8,7 @@ use mathlib.Core.Logic.{⊎-elim}
 use Prim.Native.Nat.{ℕ, zero, suc, _-_, _≤_, _<_}
 use native.Mathlib.Nat.{le-step, not-suc-le-zero, eq-or-lt-of-le, le-of-suc-le-suc}
 use native.Mathlib.Omega.{arith}
-use borrow.Author.Tests.{eqb-false, not-true, not-false, leb-true}
+use borrow.Author.Tests.{eqb-false, ne-eqb, not-true, not-false, leb-true}
 use lib.Dec.{leb, eqb}
 use Rattle.stores.specs.Lists.{each}
 use Rattle.stores.specs.Store.{store, apply}
@@ -25,7 +25,7 @@ use Rattle.replies.proofs.Sayable.{given-by, unless-given}
 use Rattle.rules.specs.Get.{keyEntry, keySegment, keyTests}
 use Rattle.rules.specs.Split.{splitting}
 use Rattle.rules.specs.Put.{directoryTests, putTests, keyChoice, placed, intoFree, putUnused, unused, put}
-use Rattle.rules.proofs.Words.{ValidHeader, valid-header}
+use Rattle.rules.proofs.Words.{ValidHeader, valid-header, header-valid}
 use Rattle.rules.proofs.Keys.{index-lt}
 use Rattle.rules.proofs.Slots.{IntoSlot, FullWindow, found-by-choose, into-by-choose, full-by-choose}
 use Rattle.rules.proofs.Scan.{range-depth, range-segment, consistent-in-range}
@@ -68,6 +68,11 @@ passed a key e =
       local-low = range-depth (depth a) (segments a) (keyEntry a key) range;
       segment-below = range-segment (depth a) (segments a) (keyEntry a key) range;
     }
+
+-- What the passed tests say is enough for them to pass.
+pub passed-none : {a : List ℕ} {key : ℕ} → Passed a key → putTests a key ≡ none
+unfolding putTests keyTests directoryTests unless
+passed-none {a} {key} p = rw (header-valid (p .valid), ne-eqb key 0 (p .nonzero), p .leaders, p .agree)
 
 -- A put's tests refuse with 1 to 4.
 pub tests-number : (a : List ℕ) (key : ℕ) (r : Refusal) → putTests a key ≡ some r → numberOf r ≤ 4

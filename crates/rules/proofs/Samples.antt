@@ -1,5 +1,6 @@
 -- Further states, by the test of the known states, which antt computes: damaged arrays, cuts, stale records, the slot for a new
--- key, listings, and what else the sentences of documents 01 and 02 say and the table of known states does not show.
+-- key, listings, one number more or another, and what else the sentences of documents 01 and 02 say and the table of known states
+-- does not show.
 -- Assumes nothing.
 use Prim.Native.Nat.{ℕ, _+_, _*_}
 use mathlib.Core.Path.{_≡_, refl}
@@ -11,8 +12,8 @@ use Rattle.stores.specs.Store.{Store, store}
 use Rattle.rules.specs.declared.Call.{Call}
 use Rattle.rules.specs.declared.Call.the-variants.{Format, Get, Put, Remove, Mend}
 use Rattle.replies.specs.Replies.{Said, done, absent, refused}
-use Rattle.rules.proofs.Table.{Names, Lookup, Row, buckets, indexed, state, listing, allPass}
-use Rattle.rules.proofs.States.{F, P, fill, stands, names, page, missing, pages, row, sixteen, P263}
+use Rattle.rules.proofs.Table.{Names, Lookup, Row, buckets, indexed, state, listing, oneMoreAllowed, otherValue, allPass}
+use Rattle.rules.proofs.States.{F, P, fill, stands, names, page, missing, pages, row, sixteen, sixteenApart, P263, P1030}
 
 -- ---- Damage to an index of D = 2, S = 4
 
@@ -103,6 +104,19 @@ mixedOrders =
     word₀ 3 3 4 ∷ entry₃ 0 2 1 ∷ entry₃ 1 2 1 ∷ entry₃ 2 2 1 ∷ entry₃ 3 2 1 ∷ entry₃ 4 0 2 ∷ entry₃ 5 0 2 ∷ entry₃ 6 3 3
     ∷ entry₃ 7 1 3
     ∷ slotOf 2 4 1025 ++ slotOf 2 12 19 ++ slotOf 2 20 5 ++ slotOf 0 0 80 ++ slotOf 0 63 31 ++ slotOf 3 8 306 ++ slotOf 3 9 50 ++ slotOf 1 1 112
+
+-- ---- One number more, or another
+
+-- A call on 520 words with an allowance larger by one; and a put with the value 2 in place of 1.
+abbrev more : List Call → List Store → Call → (next apart : List ℕ) → Row
+more before damage call next apart = oneMoreAllowed 520 before damage call next apart
+
+abbrev other : List Call → List Store → (key allowance : ℕ) → (apart : List ℕ) → Row
+other before damage key allowance apart = otherValue 520 before damage key 1 2 allowance apart
+
+-- Known state g: the split is cut between its entries.
+abbrev halfSplit : List Call
+halfSplit = sixteen 4 ++ (P263 76 ∷ [])
 
 pub samples : List Row
 unfolding each
@@ -216,6 +230,45 @@ samples =
     (1025 ∷ 10250 ∷ 5 ∷ 50 ∷ 80 ∷ 800 ∷ 31 ∷ 310 ∷ 306 ∷ 3060 ∷ 50 ∷ 500 ∷ 112 ∷ 1120 ∷ [])
     2
     ∷ unlisted (Format 3 4 10000 ∷ []) mixedOrders 10 13
+    -- the put that splits, allowed one store more: word 0, a copied key, a key word cleared where one stood and where none did, the
+    -- entries, value, key; all its stores are 79
+    ∷ more (sixteen 4) [] (P263 2) (0 ∷ []) (0 ∷ [])
+    ∷ more (sixteen 4) [] (P263 39) (202 ∷ []) (202 ∷ [])
+    ∷ more (sixteen 4) (store 204 9 ∷ []) (P263 40) (204 ∷ []) (204 ∷ [])
+    ∷ more (sixteen 4) [] (P263 40) (204 ∷ []) []
+    ∷ more (sixteen 4) [] (P263 75) (3 ∷ []) (3 ∷ [])
+    ∷ more (sixteen 4) [] (P263 76) (2 ∷ []) (2 ∷ [])
+    ∷ more (sixteen 4) [] (P263 77) (67 ∷ []) (67 ∷ [])
+    ∷ more (sixteen 4) [] (P263 78) (66 ∷ []) (66 ∷ [])
+    ∷ more (sixteen 4) [] (P263 79) [] []
+    -- a format, a remove that finds its key and one that does not, a mend, and a put refused by 3, by 4 and by 5
+    ∷ more [] (store 0 5 ∷ store 64 7 ∷ []) (Format 2 4 0) (0 ∷ []) (0 ∷ [])
+    ∷ more [] (store 0 5 ∷ store 64 7 ∷ []) (Format 2 4 30) (64 ∷ []) (64 ∷ [])
+    ∷ more [] (store 0 5 ∷ store 64 7 ∷ []) (Format 2 4 66) (0 ∷ []) (0 ∷ [])
+    ∷ more (F 4 ∷ P 7 ∷ []) [] (Remove 7 0) (64 ∷ []) (64 ∷ [])
+    ∷ more (F 4 ∷ P 7 ∷ []) [] (Remove 23 0) [] []
+    ∷ more (F 4 ∷ []) (four 0 0 1 1 1 1 1 1) (Mend 1) (6 ∷ []) (6 ∷ [])
+    ∷ more (F 4 ∷ []) (four 0 0 1 1 1 1 1 1) (Mend 3) [] []
+    ∷ more (F 4 ∷ []) (four 0 1 1 1 9 1 9 1) (Put 7 70 40) [] []
+    ∷ more halfSplit [] (P263 40) [] []
+    ∷ more (sixteenApart 4) [] (P1030 139) (4 ∷ []) (4 ∷ [])
+    ∷ more (sixteenApart 4) [] (P1030 140) [] []
+    -- the put that splits, with another value: cut before the value, between value and key, and whole
+    ∷ other (sixteen 4) [] 263 40 []
+    ∷ other (sixteen 4) [] 263 77 []
+    ∷ other (sixteen 4) [] 263 78 (67 ∷ [])
+    ∷ other (sixteen 4) [] 263 10000 (67 ∷ [])
+    -- a put of a new key and of one that is there, also where a second slot has it; 0 is a value as any other
+    ∷ other (F 4 ∷ []) [] 7 10000 (65 ∷ [])
+    ∷ other (F 4 ∷ P 7 ∷ []) [] 7 10000 (65 ∷ [])
+    ∷ other (F 4 ∷ P 7 ∷ []) (slot 29 7) 7 10000 (65 ∷ [])
+    ∷ otherValue 520 (F 4 ∷ []) [] 7 0 1 10000 (65 ∷ [])
+    -- a put refused by 1, 3, 4, 5 and 6
+    ∷ other [] [] 7 10000 []
+    ∷ other (F 4 ∷ []) (four 0 1 1 1 9 1 9 1) 7 10000 []
+    ∷ other halfSplit [] 263 10000 []
+    ∷ other (sixteenApart 4) [] 1030 10000 []
+    ∷ otherValue 136 (sixteen 1) [] 263 1 2 10000 []
     ∷ []
 
 pub samples-pass : allPass samples ≡ true

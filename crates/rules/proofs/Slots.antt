@@ -1,7 +1,7 @@
 -- Laws of the slots that the calls look for: the first hit, the slot for a new key, the choice of a put. But for the computed rows,
 -- this file alone opens the slot for a new key: the proofs above use that it is in the window and not live.
 -- Assumes nothing.
-use mathlib.Core.Path.{_≡_, refl, ap, ap₂}
+use mathlib.Core.Path.{_≡_, refl, sym, ap, ap₂, _∙_}
 use mathlib.Core.Bool.{true, false, not}
 use mathlib.Core.List.{List, List·Memᴰ}
 use mathlib.Core.Logic.{⊎-elim}
@@ -11,13 +11,32 @@ use Prim.Native.Nat.{ℕ, _<_}
 use native.Mathlib.Omega.{arith}
 use borrow.Author.Tests.{eqb-true, eqb-false, not-true, not-false}
 use lib.Dec.{eqb}
+use lib.ListN.{length, set}
 use Rattle.stores.specs.Lists.{firstIn}
-use Rattle.stores.proofs.Tests.{and-right}
+use Rattle.stores.proofs.Tests.{cases, and-right}
 use Rattle.stores.proofs.Lists.{first-same, first-some, first-none}
-use Rattle.rules.specs.Layout.{keyAt}
+use Rattle.stores.proofs.Stores.{word-set-same, word-set-other}
+use Rattle.rules.specs.Layout.{keyAddress, valueAddress, keyAt, valueAt}
 use Rattle.rules.specs.Keys.{live, window}
 use Rattle.rules.specs.Slots.{hit, isEmpty, isStale, slotForNew, Choice, found, into, full, chosen, choose}
 use Rattle.rules.proofs.Keys.{live-empty, window-lt}
+
+-- ---- The first hit
+
+pub hit-none : (a : List ℕ) (base key : ℕ) → hit a base key ≡ none
+    → (j : ℕ) → List·Memᴰ j (window key) → keyAt a base j ≡ key → ⊥
+unfolding hit
+hit-none a base key e j m q =
+    let missed : eqb (keyAt a base j) key ≡ false = first-none (λ j. eqb (keyAt a base j) key) (window key) e j m in
+    eqb-false (keyAt a base j) key missed q
+
+pub hit-window : (a : List ℕ) (base key j : ℕ) → hit a base key ≡ some j → List·Memᴰ j (window key)
+unfolding hit
+hit-window a base key j e = first-some (λ j. eqb (keyAt a base j) key) (window key) j e .0
+
+pub hit-key : (a : List ℕ) (base key j : ℕ) → hit a base key ≡ some j → keyAt a base j ≡ key
+unfolding hit
+hit-key a base key j e = eqb-true (keyAt a base j) key (first-some (λ j. eqb (keyAt a base j) key) (window key) j e .1)
 
 -- ---- The slot for a new key: there is one exactly where some slot of the window is not live
 
@@ -118,6 +137,10 @@ module _ (a : List ℕ) (base L bits key : ℕ) where
   unfolding choose
   found-by-choose j e = chosen-found (hit a base key) (slotForNew a base L bits key) j e
 
+  pub chosen-at-hit : (j : ℕ) → hit a base key ≡ some j → choose a base L bits key ≡ found j
+  unfolding choose chosen
+  chosen-at-hit j e = rw e
+
   pub into-by-choose : (j : ℕ) → choose a base L bits key ≡ into j → IntoSlot a base L bits key j
   unfolding choose
   into-by-choose j e =
@@ -126,12 +149,12 @@ module _ (a : List ℕ) (base L bits key : ℕ) where
       record { missing = c .0; in-window = slot .0; not-live = slot .1 }
 
   pub full-by-choose : choose a base L bits key ≡ full → FullWindow a base L bits key
-  unfolding choose hit
+  unfolding choose
   full-by-choose e =
       let c = chosen-full (hit a base key) (slotForNew a base L bits key) e in
       record {
         missing = c .0;
-        others = λ j m. eqb-false (keyAt a base j) key (first-none (λ i. eqb (keyAt a base i) key) (window key) (c .0) j m);
+        others = hit-none a base key (c .0);
         all-live = no-new-slot a base L bits key (c .1);
       }
 
@@ -154,3 +177,56 @@ module _ (a b : List ℕ) (base base′ : ℕ) (same : (j : ℕ) → j < 64 → 
   pub choose-same : (L bits : ℕ) → choose a base L bits key ≡ choose b base′ L bits key
   unfolding choose
   choose-same L bits = ap₂ chosen hit-same (new-same L bits)
+
+-- ---- A store in a slot
+
+key-not-value : (base j k : ℕ) → keyAddress base j ≡ valueAddress base k → ⊥
+key-not-value base j k e = omega arith
+
+value-inj : (base j k : ℕ) → valueAddress base j ≡ valueAddress base k → j ≡ k
+value-inj base j k e = omega arith
+
+key-inj : (base j k : ℕ) → keyAddress base j ≡ keyAddress base k → j ≡ k
+key-inj base j k e = omega arith
+
+-- A new value at slot j: keys stay, and the values of other slots.
+pub key-after-value : (a : List ℕ) (base j v k : ℕ) → keyAt (set a (valueAddress base j) v) base k ≡ keyAt a base k
+key-after-value a base j v k = word-set-other a (valueAddress base j) (keyAddress base k) v (key-not-value base k j)
+
+pub hit-after-value : (a : List ℕ) (base j v key : ℕ) → hit (set a (valueAddress base j) v) base key ≡ hit a base key
+unfolding hit
+hit-after-value a base j v key =
+    first-same _ _ (window key) (λ k w. ap (λ (x : ℕ). eqb x key) (key-after-value a base j v k))
+
+pub value-after-value : (a : List ℕ) (base j v k : ℕ) → (k ≡ j → ⊥) → valueAt (set a (valueAddress base j) v) base k ≡ valueAt a base k
+value-after-value a base j v k d =
+    word-set-other a (valueAddress base j) (valueAddress base k) v (λ e. d (value-inj base k j e))
+
+-- A new key at slot j: values stay, and the keys of other slots.
+pub value-after-key : (a : List ℕ) (base j x k : ℕ) → valueAt (set a (keyAddress base j) x) base k ≡ valueAt a base k
+value-after-key a base j x k = word-set-other a (keyAddress base j) (valueAddress base k) x (λ e. key-not-value base j k (sym e))
+
+pub key-after-key : (a : List ℕ) (base j x k : ℕ) → (k ≡ j → ⊥) → keyAt (set a (keyAddress base j) x) base k ≡ keyAt a base k
+key-after-key a base j x k d = word-set-other a (keyAddress base j) (keyAddress base k) x (λ e. d (key-inj base k j e))
+
+-- A key that the window did not have, stored into slot j: no other slot of the window has it,
+pub only-after-key : (a : List ℕ) (base key j : ℕ) → ((k : ℕ) → List·Memᴰ k (window key) → keyAt a base k ≡ key → ⊥)
+    → (k : ℕ) → List·Memᴰ k (window key) → keyAt (set a (keyAddress base j) key) base k ≡ key → k ≡ j
+only-after-key a base key j missing k m e =
+    ⊎-elim
+    (λ (t : eqb k j ≡ true). eqb-true k j t)
+    (λ (t : eqb k j ≡ false). absurd (missing k m (sym (key-after-key a base j key k (eqb-false k j t)) ∙ e)))
+    (cases (eqb k j))
+
+-- and the search finds it there.
+pub hit-after-key : (a : List ℕ) (base key j : ℕ) → keyAddress base j < length a → List·Memᴰ j (window key) → hit a base key ≡ none
+    → hit (set a (keyAddress base j) key) base key ≡ some j
+hit-after-key a base key j inside m missing = go (hit b base key) refl
+  where
+    b : List ℕ
+    b = set a (keyAddress base j) key
+
+    go : (h : Option ℕ) → hit b base key ≡ h → h ≡ some j
+    go none e = absurd (hit-none b base key e j m (word-set-same a (keyAddress base j) key inside))
+    go (some k) e =
+        ap some (only-after-key a base key j (hit-none a base key missing) k (hit-window b base key k e) (hit-key b base key k e))

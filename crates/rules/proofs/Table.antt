@@ -3,14 +3,15 @@
 use Prim.Native.Nat.{ℕ, suc}
 use mathlib.Core.Bool.{Bool, true, _&&_}
 use mathlib.Core.List.{List, [], _∷_}
-use mathlib.Core.Option.{orElse}
+use mathlib.Core.Option.{Option, none, some, orElse}
 use lib.Dec.{eqb}
 use lib.ListN.{replicate}
-use Rattle.stores.specs.Lists.{each, firstIn, allBelow, anyBelow, numbersSame}
+use Rattle.stores.specs.Lists.{pick, each, firstIn, allBelow, anyBelow, numbersSame}
 use Rattle.stores.specs.Store.{Store, word, apply, exec}
 use Rattle.stores.specs.Plan.{Outcome, cut}
+use Rattle.stores.specs.Difference.{addressBehind}
 use Rattle.rules.specs.declared.Call.{Call}
-use Rattle.rules.specs.declared.Call.the-variants.{List as ListCall}
+use Rattle.rules.specs.declared.Call.the-variants.{Put, List as ListCall}
 use Rattle.rules.specs.Layout.{depthIn, maxDepthIn, segmentsIn, markIn, header, depth, wordsFor, validShape, validHeader, entryAddress, entryAt, segmentOf, localDepth, entry, segmentAddress}
 use Rattle.rules.specs.Keys.{folded, bucket, directoryBits, bitOf, firstBits, bit, index, width, blockBits, blockStart, live, windowBucket, slotsOf, window}
 use Rattle.rules.specs.Scan.{inRange, validLeader, nextLeader, leader, leadersValid, entriesAgree}
@@ -25,6 +26,7 @@ use Rattle.rules.specs.Remove.{removeTests, clearedAt, remove}
 use Rattle.rules.specs.Mend.{mendTests, mendEntry, mending, mend}
 use Rattle.rules.specs.Listing.{liveRecord, blockRecords, records, wordsOf, listTests, list}
 use Rattle.rules.specs.Step.{effect, Step, step, outcomeOf}
+use Rattle.rules.specs.OneNumber.{oneMore, nextAddress}
 
 -- ---- Rows
 
@@ -51,6 +53,12 @@ pub data Row : Type 0 where
       → Row
   -- A listing, behind the same: a list into the list array `list`. It is to say `said` with no store, and to leave `left` there.
   listing : (lent : ℕ) (before : List Call) (damage : List Store) (list : List ℕ) (said : Said) (left : List ℕ) → Row
+  -- A call with its allowance and with one larger by one, behind the same. The address of the store that one more allows is to be
+  -- `next`, nothing where there is none; the arrays left are to differ at the addresses `apart` and at no other.
+  oneMoreAllowed : (lent : ℕ) (before : List Call) (damage : List Store) (call : Call) (next apart : List ℕ) → Row
+  -- A put of the key with the value v and with w, behind the same. Replies and store counts are to be the same, and the arrays left
+  -- to differ at the addresses `apart` and at no other.
+  otherValue : (lent : ℕ) (before : List Call) (damage : List Store) (key v w allowance : ℕ) (apart : List ℕ) → Row
 
 -- ---- The test
 
@@ -88,6 +96,23 @@ listPasses s said left =
     (saidSame (s .outcome .reply) said && eqb (s .outcome .made) 0)
     && numbersSame (s .list) left
 
+-- The addresses, from i on, at which two arrays differ; beyond the shorter one all of the longer one's.
+differing : (i : ℕ) → (x y : List ℕ) → List ℕ
+differing i [] [] = []
+differing i [] (w ∷ y) = i ∷ differing (suc i) [] y
+differing i (v ∷ x) [] = i ∷ differing (suc i) x []
+differing i (v ∷ x) (w ∷ y) = pick (eqb v w) (differing (suc i) x y) (i ∷ differing (suc i) x y)
+
+-- An address, or nothing.
+ifAny : Option ℕ → List ℕ
+ifAny none = []
+ifAny (some i) = i ∷ []
+
+otherPasses : Outcome Said → Outcome Said → (apart : List ℕ) → Bool
+otherPasses o p apart =
+    (saidSame (o .reply) (p .reply) && eqb (o .made) (p .made))
+    && numbersSame (differing 0 (o .after) (p .after)) apart
+
 -- The array behind calls and damage.
 prepared : (lent : ℕ) → List Call → List Store → List ℕ
 prepared lent before damage = apply damage (afterCalls (replicate lent 0) before)
@@ -102,9 +127,16 @@ passes (state lent before damage call said made words entries lookups) =
     outcomePasses (outcomeOf (prepared lent before damage) call) said made words entries lookups
 passes (listing lent before damage list said left) =
     listPasses (step (prepared lent before damage) list ListCall) said left
+passes (oneMoreAllowed lent before damage call next apart) =
+    let a : List ℕ = prepared lent before damage in
+    numbersSame (ifAny (nextAddress (effect a 0 call))) next
+    && numbersSame (differing 0 ((outcomeOf a call) .after) ((outcomeOf a (oneMore call)) .after)) apart
+passes (otherValue lent before damage key v w allowance apart) =
+    let a : List ℕ = prepared lent before damage in
+    otherPasses (outcomeOf a (Put key v allowance)) (outcomeOf a (Put key w allowance)) apart
 
 -- Every row of the table passes.
 unfoldable pub allPass : List Row → Bool
-unfolding computed numbersSame saidSame afterCalls wordsSeen entriesSeen lookupsSeen outcomePasses listPasses prepared windowBuckets passes
+unfolding computed numbersSame saidSame afterCalls wordsSeen entriesSeen lookupsSeen outcomePasses listPasses addressBehind differing ifAny otherPasses prepared windowBuckets passes
 allPass [] = true
 allPass (r ∷ rs) = passes r && allPass rs

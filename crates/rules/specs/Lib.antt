@@ -12,4 +12,5 @@ pub mod Mend
 pub mod Listing
 pub mod Step
 pub mod SameListing
+pub mod OneNumber
 pub mod Given

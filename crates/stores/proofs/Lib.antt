@@ -6,5 +6,6 @@ pub mod Stores
 pub mod Prefixes
 pub mod Parts
 pub mod Plans
+pub mod Differences
 pub mod Written
 pub mod Loops

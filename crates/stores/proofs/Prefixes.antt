@@ -36,6 +36,11 @@ module _ (P : List ℕ → Type 0) where
       rw (exec-append ss tt n a, exec-all ss n a (omega (arith, leb-false n (length ss) l))) (k (n - length ss)))
       (cases (leb n (length ss)))
 
+  -- No store.
+  pub always-none : (a : List ℕ) → P a → Always P [] a
+  unfolding exec apply
+  always-none a h n = rw (take-nil {A = Store} n) h
+
   -- One store: before it and after it.
   pub always-one : (s : Store) (a : List ℕ) → P a → P (apply (s ∷ []) a) → Always P (s ∷ []) a
   always-one s a h k zero = rw exec-none h

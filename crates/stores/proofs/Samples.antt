@@ -1,12 +1,14 @@
--- A plan of three stores on an array of three words, under each allowance, stores in a part, and words in front: tables that antt
--- computes from the definitions.
+-- A plan of three stores on an array of three words, under each allowance, where the next store goes, stores in a part, and words in
+-- front: tables that antt computes from the definitions.
 -- Assumes nothing.
 use Prim.Native.Nat.{ℕ}
 use mathlib.Core.Path.{_≡_, refl}
 use mathlib.Core.List.{List, [], _∷_}
+use mathlib.Core.Option.{Option, none, some}
 use Rattle.stores.specs.Store.{store, apply, exec, shifted}
 use Rattle.stores.specs.Plan.{Plan, Outcome, cut}
 use Rattle.stores.specs.Written.{atFront}
+use Rattle.stores.specs.Difference.{addressBehind}
 
 -- Two stores at address 1, and one between them at address 2; the reply is 0.
 abbrev pub plan : Plan ℕ
@@ -22,6 +24,13 @@ pub cuts : _≡_ {A = List (Outcome ℕ)} (under 0 ∷ under 1 ∷ under 2 ∷ u
     (outcome 7 0 5 0 0 ∷ outcome 7 1 5 10 0 ∷ outcome 7 2 5 10 20 ∷ outcome 0 3 5 11 20 ∷ outcome 0 3 5 11 20 ∷ [])
 unfolding cut exec apply
 cuts = refl
+
+-- The addresses of the stores number 1, 2, 3; there is no fourth.
+pub next-addresses : _≡_ {A = List (Option ℕ)}
+    (addressBehind 0 (plan .due) ∷ addressBehind 1 (plan .due) ∷ addressBehind 2 (plan .due) ∷ addressBehind 3 (plan .due) ∷ [])
+    (some 1 ∷ some 2 ∷ some 1 ∷ none ∷ [])
+unfolding addressBehind
+next-addresses = refl
 
 -- Two stores in the part that starts at address 1.
 pub in-a-part : apply (shifted 1 (store 0 8 ∷ store 1 9 ∷ [])) (5 ∷ 0 ∷ 0 ∷ []) ≡ 5 ∷ 8 ∷ 9 ∷ []

@@ -5,7 +5,7 @@ use mathlib.Core.Bool.{Bool, true, false, _||_}
 use mathlib.Core.List.{List, [], _∷_, _++_}
 use mathlib.Core.Logic.{⊎-elim}
 use Prim.Native.Nat.{ℕ, zero, suc, _+_, _-_, _≤_, _<_}
-use native.Mathlib.Nat.{zero-sub, sub-zero, suc-sub-suc, not-suc-le-zero, le-refl, le-step, eq-or-lt-of-le, le-of-suc-le-suc}
+use native.Mathlib.Nat.{suc-ne-zero, suc-inj, zero-sub, sub-zero, suc-sub-suc, not-suc-le-zero, le-refl, le-step, eq-or-lt-of-le, le-of-suc-le-suc}
 use native.Mathlib.Omega.{arith}
 use borrow.Author.Tests.{eqb-true, eqb-false}
 use lib.Dec.{eqb}
@@ -144,3 +144,24 @@ read-each at value (suc n) a apart k h b =
     word-set-other (apply front a) (at n) (at k) (value n) (apart k n l (le-refl (suc n)))
     ∙ read-each at value n a (λ i j p q. apart i j p (le-step q)) k l b)
     (eq-or-lt-of-le (le-of-suc-le-suc h))
+
+-- ---- The same stores on two arrays
+
+-- Where two arrays of the same length have the same word, they have the same word there after the same stores.
+pub apply-same : (ss : List Store) (a b : List ℕ) (i : ℕ)
+    → length a ≡ length b → word a i ≡ word b i → word (apply ss a) i ≡ word (apply ss b) i
+unfolding apply
+apply-same [] a b i l h = h
+apply-same (s ∷ ss) a b i l h =
+    apply-same ss (set a (s .at) (s .value)) (set b (s .at) (s .value)) i
+    (length-set a (s .at) (s .value) ∙ l ∙ sym (length-set b (s .at) (s .value)))
+    (set-same a b (s .at) (s .value) i l h)
+  where
+    set-same : (a b : List ℕ) (j v i : ℕ) → length a ≡ length b → word a i ≡ word b i → word (set a j v) i ≡ word (set b j v) i
+    set-same [] [] j v i l h = refl
+    set-same [] (y ∷ b) j v i l h = absurd (suc-ne-zero (length b) (sym l))
+    set-same (x ∷ a) [] j v i l h = absurd (suc-ne-zero (length a) l)
+    set-same (x ∷ a) (y ∷ b) zero v zero l h = refl
+    set-same (x ∷ a) (y ∷ b) zero v (suc i) l h = h
+    set-same (x ∷ a) (y ∷ b) (suc j) v zero l h = h
+    set-same (x ∷ a) (y ∷ b) (suc j) v (suc i) l h = set-same a b j v i (suc-inj l) h
