@@ -28,7 +28,8 @@ bool agrees(Words &ours, Words &theirs, std::mt19937_64 &r) {
     twin::Index<> index(theirs.data(), theirs.size());
     word *w = ours.data();
     std::size_t n = ours.size();
-    word key = r() % 3 ? sharing(r() % 90) : r() % 500, value = r();
+    // Often one of a few values, so that a page gets the value that it has, or 0.
+    word key = r() % 3 ? sharing(r() % 90) : r() % 500, value = r() % 4 ? r() : r() % 3;
     std::uint32_t allowance = r() % 4 ? 0xffffffff : std::uint32_t(r() % 100);
     switch (r() % 16) {
         case 0: return same(page_index_mend(w, n, allowance), index.mend(allowance)) && ours == theirs;

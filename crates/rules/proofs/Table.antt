@@ -26,7 +26,7 @@ use Rattle.rules.specs.Remove.{removeTests, clearedAt, remove}
 use Rattle.rules.specs.Mend.{mendTests, mendEntry, mending, mend}
 use Rattle.rules.specs.Listing.{liveRecord, blockRecords, records, wordsOf, listTests, list}
 use Rattle.rules.specs.Step.{effect, Step, step, outcomeOf}
-use Rattle.rules.specs.OneNumber.{oneMore, nextAddress}
+use Rattle.rules.specs.OneNumber.{oneMore, nextAddress, valueWord}
 
 -- ---- Rows
 
@@ -57,7 +57,7 @@ pub data Row : Type 0 where
   -- `next`, nothing where there is none; the arrays left are to differ at the addresses `apart` and at no other.
   oneMoreAllowed : (lent : ℕ) (before : List Call) (damage : List Store) (call : Call) (next apart : List ℕ) → Row
   -- A put of the key with the value v and with w, behind the same. Replies and store counts are to be the same, and the arrays left
-  -- to differ at the addresses `apart` and at no other.
+  -- to differ at the addresses `apart` and at no other: the value word of the put's slot, or nothing.
   otherValue : (lent : ℕ) (before : List Call) (damage : List Store) (key v w allowance : ℕ) (apart : List ℕ) → Row
 
 -- ---- The test
@@ -108,10 +108,15 @@ ifAny : Option ℕ → List ℕ
 ifAny none = []
 ifAny (some i) = i ∷ []
 
-otherPasses : Outcome Said → Outcome Said → (apart : List ℕ) → Bool
-otherPasses o p apart =
+-- Nothing is apart; or one word, which in either array is the value word of the slot where a put of the key goes.
+valueApart : (x y : List ℕ) → (key : ℕ) → (apart : List ℕ) → Bool
+valueApart x y key [] = true
+valueApart x y key (i ∷ is) = numbersSame (ifAny (valueWord x key)) (i ∷ is) && numbersSame (ifAny (valueWord y key)) (i ∷ is)
+
+otherPasses : Outcome Said → Outcome Said → (key : ℕ) → (apart : List ℕ) → Bool
+otherPasses o p key apart =
     (saidSame (o .reply) (p .reply) && eqb (o .made) (p .made))
-    && numbersSame (differing 0 (o .after) (p .after)) apart
+    && (numbersSame (differing 0 (o .after) (p .after)) apart && valueApart (o .after) (p .after) key apart)
 
 -- The array behind calls and damage.
 prepared : (lent : ℕ) → List Call → List Store → List ℕ
@@ -133,10 +138,10 @@ passes (oneMoreAllowed lent before damage call next apart) =
     && numbersSame (differing 0 ((outcomeOf a call) .after) ((outcomeOf a (oneMore call)) .after)) apart
 passes (otherValue lent before damage key v w allowance apart) =
     let a : List ℕ = prepared lent before damage in
-    otherPasses (outcomeOf a (Put key v allowance)) (outcomeOf a (Put key w allowance)) apart
+    otherPasses (outcomeOf a (Put key v allowance)) (outcomeOf a (Put key w allowance)) key apart
 
 -- Every row of the table passes.
 unfoldable pub allPass : List Row → Bool
-unfolding computed numbersSame saidSame afterCalls wordsSeen entriesSeen lookupsSeen outcomePasses listPasses addressBehind differing ifAny otherPasses prepared windowBuckets passes
+unfolding computed numbersSame saidSame afterCalls wordsSeen entriesSeen lookupsSeen outcomePasses listPasses addressBehind differing ifAny valueApart otherPasses prepared windowBuckets passes
 allPass [] = true
 allPass (r ∷ rs) = passes r && allPass rs

@@ -133,12 +133,15 @@ fn state_a(arrays: &mut Arrays) {
     expect_word(arrays, 0, FIRST_WORD_A);
 }
 
-// b: the first put.
+// b: the first put. Then the same once more, and with 0, which is a value as any other.
 fn state_b(arrays: &mut Arrays) {
     format_state(arrays, WORDS_4, Call::Format(2, 4, ALLOWANCE), DONE, 67);
     expect_call(arrays, Call::Put(7, 70, ALLOWANCE), DONE, 2);
     expect_word(arrays, 65, 70);
     expect_word(arrays, 64, 7);
+    expect_call(arrays, Call::Put(7, 70, ALLOWANCE), DONE, 1);
+    expect_call(arrays, Call::Put(7, 0, ALLOWANCE), DONE, 1);
+    expect_word(arrays, 65, 0);
 }
 
 // The directory of depth 2 with four segments.

@@ -1,8 +1,10 @@
 //! Compares the compiled index with the model, call by call and word by word: random calls on arrays
-//! that runs of calls leave, on such arrays with damage, and on arrays of random words. Then the month board.
+//! that runs of calls leave, on such arrays with damage, and on arrays of random words. Of some calls it is tried how
+//! much one number can change. Then the month board.
 mod board;
 mod board_model;
 mod model;
+mod one_number;
 
 use model::{Answer, Call, ABSENT, DONE};
 use page_index::Refused;
@@ -36,6 +38,7 @@ struct Counts {
     /// Calls on an array whose word 0 has the old mark.
     old: u64,
     codes: std::collections::BTreeMap<(&'static str, u32), u64>,
+    one_number: one_number::Counts,
 }
 
 impl Counts {
@@ -130,6 +133,11 @@ fn key(r: &mut Random) -> u64 {
     }
 }
 
+/// A value: any number, often one of a few, so that a page gets the value that it has, or 0.
+fn value(r: &mut Random) -> u64 {
+    if r.chance(4) { r.below(3) } else { r.next() }
+}
+
 fn allowance(r: &mut Random) -> u32 {
     match r.below(4) {
         0 => r.below(90) as u32,
@@ -153,7 +161,7 @@ fn call(r: &mut Random, used: &mut Vec<u64>) -> Call {
         9..=26 => {
             let key = key(r);
             used.push(key);
-            Call::Put(key, r.next(), allowance(r))
+            Call::Put(key, value(r), allowance(r))
         }
         27..=32 => Call::Remove(known(r, used), allowance(r)),
         33..=37 => Call::Mend(allowance(r)),
@@ -204,6 +212,9 @@ fn run(r: &mut Random, steps: u64, damaged: bool, counts: &mut Counts) {
         let room = if r.chance(3) { r.below(40) as usize } else { 2 * 64 * 24 };
         counts.damaged += damaged as u64;
         let call = call(r, &mut used);
+        if r.chance(8) {
+            one_number::compare(&ours, call, value(r), &mut counts.one_number);
+        }
         let got = compare(&mut ours, &mut theirs, call, room, counts);
         if got.code == 1 && !damaged {
             compare(&mut ours, &mut theirs, Call::Format(d, s, u32::MAX), 0, counts);
@@ -233,7 +244,9 @@ fn random_array(r: &mut Random, counts: &mut Counts) {
     for _ in 0..3 {
         counts.damaged += 1;
         let room = r.below(4000) as usize;
-        compare(&mut ours, &mut theirs, call(r, &mut Vec::new()), room, counts);
+        let call = call(r, &mut Vec::new());
+        one_number::compare(&ours, call, value(r), &mut counts.one_number);
+        compare(&mut ours, &mut theirs, call, room, counts);
     }
 }
 
@@ -258,6 +271,9 @@ fn main() {
         println!("{call} {code}: {count}");
     }
     assert!(counts.old > 0, "no word 0 had the old mark");
+    if !one_number::report(&counts.one_number) {
+        std::process::exit(1);
+    }
     let mut counts = board::BoardCounts::default();
     for &seed in &seeds {
         board::compare_board(&mut Random(seed), rounds, &mut counts);
