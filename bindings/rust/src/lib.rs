@@ -6,6 +6,11 @@
 //! leaves the array as an allowance of so many stores would; after one, [`mend`] until it is done.
 //! [`board`] keeps the pages of jobs, by year, month and number, in an array of its own.
 //!
+//! Of one array and one call, an allowance larger by one changes at most one word of what is left: the word
+//! of the one store more. Two puts that differ in the value alone have the same answer, and what they leave
+//! differs at most in the value word of the key's slot; not at all where the put is refused, or cut off before
+//! it stores the value.
+//!
 //! Every number but 0 is a key. Where it goes is taken from the low bits of its folded key,
 //! `key ^ key / 1024`; the array holds the key itself. A store of before keys were folded has the mark
 //! 0x50414745 in the upper half of word 0, in place of 0x50414746: every call but [`format`] refuses it with

@@ -11,7 +11,7 @@ use borrow.Author.Tests.{leb-true, leb-false}
 use lib.Dec.{leb}
 use lib.ListN.{length, set, length-set, length-append}
 use Rattle.stores.specs.Store.{Store, word, store, apply, exec}
-use Rattle.stores.specs.Plan.{Plan, Outcome, _then_, cut}
+use Rattle.stores.specs.Plan.{Plan, _then_, cut}
 use Rattle.stores.specs.Difference.{DifferAt}
 use Rattle.stores.proofs.Tests.{cases}
 use Rattle.stores.proofs.Stores.{apply-append, word-set-same, word-set-other}
@@ -153,14 +153,18 @@ module _ (a : List ℕ) (key : ℕ) (p : Passed a key) where
 
 -- ---- The plans of two puts that differ in the value
 
+-- A plan that is done and has one store of the value u, behind the stores `front`.
+abbrev valuePlan : (front : List Store) (at : ℕ) (behind : List Store) (u : ℕ) → Plan Said
+valuePlan front at behind u = record { due = valued front at behind u; reply = done [] }
+
 -- Each plan has one store of the value, the same ones before it and the same ones behind it. Once it is made, it stands where a put
 -- of the key goes.
 record OneStore (key v w : ℕ) (a : List ℕ) (p q : Plan Said) : Type 0 where
   pub front : List Store
   pub at : ℕ
   pub behind : List Store
-  pub first : p ≡ record { due = valued front at behind v; reply = done [] }
-  pub second : q ≡ record { due = valued front at behind w; reply = done [] }
+  pub first : p ≡ valuePlan front at behind v
+  pub second : q ≡ valuePlan front at behind w
   pub took : (u n : ℕ) → Took key at u (exec behind n (set (apply front a) at u))
 
 -- The plan has no store of the value, and refuses.
@@ -251,7 +255,7 @@ module _ (key v w n : ℕ) (a : List ℕ) where
   module _ (front : List Store) (at : ℕ) (behind : List Store)
       (took : (u m : ℕ) → Took key at u (exec behind m (set (apply front a) at u))) where
     abbrev planOf : (u : ℕ) → Plan Said
-    planOf u = record { due = valued front at behind u; reply = done [] }
+    planOf u = valuePlan front at behind u
 
     cut-before : n ≤ length front → NotStored (changed n (planOf v) a) (changed n (planOf w) a)
     unfolding changed cut
@@ -289,38 +293,37 @@ module _ (key v w n : ℕ) (a : List ℕ) where
         (λ (t : leb n (length front) ≡ false). inr (value-stored (leb-false n (length front) t)))
         (cases (leb n (length front)))
 
--- Plans with as many stores and the same reply say the same.
-record SaidSame (o p : Outcome Said) : Type 0 where
-  pub reply : o .reply ≡ p .reply
-  pub made : o .made ≡ p .made
+  -- In either case.
+  plans-leave : (p q : Plan Said) → Plans key v w a p q
+      → NotStored (changed n p a) (changed n q a) ⊎ Stored key v w (changed n p a) (changed n q a)
+  plans-leave p q (inl r) = inl (not-stored p q r)
+  plans-leave p q (inr r) = rw (r .first, r .second) (stored-or-not (r .front) (r .at) (r .behind) (r .took))
 
-said-same : (n : ℕ) (a : List ℕ) (p q : Plan Said) → length (p .due) ≡ length (q .due) → p .reply ≡ q .reply
-    → SaidSame (changed n p a) (changed n q a)
-unfolding changed cut
-said-same n a p q l r = record { reply = rw (l, r); made = rw l }
+  -- Reply and store count follow from the number of stores and from the plan's reply, which are the same.
+  same-said : (p q : Plan Said) → length (p .due) ≡ length (q .due) → p .reply ≡ q .reply
+      → ((changed n p a) .reply ≡ (changed n q a) .reply) × ((changed n p a) .made ≡ (changed n q a) .made)
+  unfolding changed cut
+  same-said p q l r = (rw (l, r), rw l)
+
+  plans-say : (p q : Plan Said) → Plans key v w a p q
+      → ((changed n p a) .reply ≡ (changed n q a) .reply) × ((changed n p a) .made ≡ (changed n q a) .made)
+  plans-say p q (inl r) = same-said p q (ap (λ (x : Plan Said). length (x .due)) (r .same)) (ap (λ (x : Plan Said). x .reply) (r .same))
+  plans-say p q (inr r) =
+      rw (r .first, r .second)
+      (same-said (valuePlan (r .front) (r .at) (r .behind) v) (valuePlan (r .front) (r .at) (r .behind) w)
+      (valued-length (r .front) (r .at) (r .behind) v w) refl)
 
 pub other-value-at : OtherValueAt
 unfolding step effect
-other-value-at a l key v w n =
-    ⊎-elim
-    (λ (r : NoStoreOfValue (put a key v) (put a key w)). inl (not-stored key v w n a (put a key v) (put a key w) r))
-    (λ (r : OneStore key v w a (put a key v) (put a key w)).
-    rw (r .first, r .second) (stored-or-not key v w n a (r .front) (r .at) (r .behind) (r .took)))
-    (put-plans key v w a)
+other-value-at a l key v w n = plans-leave key v w n a (put a key v) (put a key w) (put-plans key v w a)
 
 pub other-value : OtherValue
 unfolding step effect
 other-value a l key v w n =
-    let said : SaidSame (changed n (put a key v) a) (changed n (put a key w) a) =
-    ⊎-elim
-    (λ (r : NoStoreOfValue (put a key v) (put a key w)).
-    said-same n a (put a key v) (put a key w) (ap (λ (p : Plan Said). length (p .due)) (r .same)) (ap (λ (p : Plan Said). p .reply) (r .same)))
-    (λ (r : OneStore key v w a (put a key v) (put a key w)).
-    said-same n a (put a key v) (put a key w) (rw (r .first, r .second) (valued-length (r .front) (r .at) (r .behind) v w)) (rw (r .first, r .second)))
-    (put-plans key v w a) in
+    let said = plans-say key v w n a (put a key v) (put a key w) (put-plans key v w a) in
     record {
-      reply = said .reply;
-      made = said .made;
+      reply = said .0;
+      made = said .1;
       words = ⊎-elim
           (λ (r : NotStored _ _). at-most-one none _ _ (r .same))
           (λ (r : Stored key v w _ _). at-most-one (some (r .address)) _ _ (r .same))
