@@ -9,15 +9,15 @@ use Prim.Native.Nat.{ℕ, zero, suc, _+_, _/_, _^_, _≤_, _<_}
 use native.Mathlib.Omega.{arith}
 use borrow.Author.Tests.{eqb-true}
 use lib.Dec.{eqb}
-use lib.ListN.{length, take}
-use lib.Pow.{pow-mono}
+use lib.ListN.{length, set, take}
+use lib.Pow.{pow-pos}
 use Rattle.stores.specs.Lists.{pick, each}
 use Rattle.stores.specs.Store.{Store, word, store, apply, exec}
 use Rattle.stores.specs.Plan.{Plan, Outcome, cut}
 use Rattle.stores.specs.Written.{atFront}
 use Rattle.stores.proofs.Tests.{cases}
 use Rattle.stores.proofs.Lists.{each-same, first-same, all-same, any-same}
-use Rattle.stores.proofs.Stores.{length-apply, apply-same}
+use Rattle.stores.proofs.Stores.{length-apply, word-set-other, apply-same}
 use Rattle.replies.specs.declared.Refusal.{Refusal}
 use Rattle.replies.specs.declared.Refusal.the-variants.{NoStore, NoKey, Broken, Unmended}
 use Rattle.rules.specs.declared.Call.{Call}
@@ -98,6 +98,36 @@ agree-after a b ss s d n =
       words-same = λ i h. apply-same ss a b i (s .length-same) (s .words-same i (rw (d, n) at h));
     }
 
+-- Two arrays have the same word 0 and the same entries, in every directory of a depth up to D of the first.
+pub record SameFront (a b : List ℕ) : Type 0 where
+  pub words-same : (i : ℕ) → i < 2 ^ suc (maxDepth a) → word a i ≡ word b i
+
+pub front-itself : (a : List ℕ) → SameFront a a
+front-itself a = record { words-same = λ i h. refl }
+
+module _ {a b : List ℕ} (s : SameFront a b) where
+  pub front-word-0 : word a 0 ≡ word b 0
+  front-word-0 = s .words-same 0 (pow-pos (suc (maxDepth a)))
+
+  front-entry : (g : ℕ) → g ≤ maxDepth a → (i : ℕ) → i < 2 ^ g → entryAt a g i ≡ entryAt b g i
+  front-entry g low i h = s .words-same (entryAddress g i) (entry-inside (maxDepth a) g i low h)
+
+  pub front-key-entry : depth a ≤ maxDepth a → (key : ℕ) → keyEntry a key ≡ keyEntry b key
+  unfolding keyEntry
+  front-key-entry low key = front-entry (depth a) low (index key (depth a)) (index-lt key (depth a)) ∙ rw front-word-0
+
+  pub front-key-segment : depth a ≤ maxDepth a → (key : ℕ) → keySegment a key ≡ keySegment b key
+  unfolding keySegment
+  front-key-segment low key = rw (front-key-entry low key, front-word-0)
+
+  -- A store behind the directories leaves them as they are.
+  pub front-store : (i v : ℕ) → 2 ^ suc (maxDepth a) ≤ i → SameFront a (set b i v)
+  front-store i v h =
+      record { words-same = λ j k. s .words-same j k ∙ sym (word-set-other b i j v (λ e. omega arith)) }
+
+agree-front : {a b : List ℕ} → Agree a b → SameFront a b
+agree-front {a} {b} s = record { words-same = λ i h. s .words-same i (omega (arith, directories-below (maxDepth a) (segments a))) }
+
 -- A segment below S ends within the words that D and S take.
 segment-ends : (D S n : ℕ) → n < S → segmentAddress D n + 128 ≤ wordsFor D S
 unfolding segmentAddress wordsFor
@@ -106,10 +136,7 @@ segment-ends D S n h = omega arith
 module _ {a b : List ℕ} (s : Agree a b) where
   -- Word 0 agrees, and with it G, D and S.
   pub word-0-same : word a 0 ≡ word b 0
-  word-0-same =
-      let one : 2 ^ 0 ≤ 2 ^ suc (maxDepth a) = pow-mono {i = 0} {j = suc (maxDepth a)} (omega arith) in
-      let q : 2 ^ suc (maxDepth a) ≤ wordsFor (maxDepth a) (segments a) = directories-below (maxDepth a) (segments a) in
-      s .words-same 0 (omega arith)
+  word-0-same = front-word-0 (agree-front s)
 
   pub header-same : validHeader a ≡ validHeader b
   unfolding validHeader
@@ -152,9 +179,7 @@ module _ {a b : List ℕ} (s : Agree a b) where
   -- A directory of a depth of at most D agrees.
   module _ (g : ℕ) (low : g ≤ maxDepth a) where
     entry-same : (i : ℕ) → i < 2 ^ g → entryAt a g i ≡ entryAt b g i
-    entry-same i h =
-        s .words-same (entryAddress g i)
-        (omega (arith, entry-inside (maxDepth a) g i low h, directories-below (maxDepth a) (segments a)))
+    entry-same = front-entry (agree-front s) g low
 
     leader-local : (i : ℕ) → i < 2 ^ g → leader a g i ≡ leader b g i
     unfolding leader nextLeader
@@ -189,13 +214,10 @@ module _ {a b : List ℕ} (s : Agree a b) where
 
 module _ {a b : List ℕ} (s : Agree a b) (v : ValidHeader a) where
   pub key-entry-same : (key : ℕ) → keyEntry a key ≡ keyEntry b key
-  unfolding keyEntry
-  key-entry-same key =
-      entry-same s (depth a) (v .present) (index key (depth a)) (index-lt key (depth a)) ∙ rw (word-0-same s)
+  key-entry-same = front-key-entry (agree-front s) (v .present)
 
   key-segment-same : (key : ℕ) → keySegment a key ≡ keySegment b key
-  unfolding keySegment
-  key-segment-same key = rw (key-entry-same key, word-0-same s)
+  key-segment-same = front-key-segment (agree-front s) (v .present)
 
   named-same : (n : ℕ) → named a n ≡ named b n
   unfolding named

@@ -5,7 +5,7 @@ use mathlib.Core.Bool.{true, false}
 use mathlib.Core.List.{List, [], _∷_, _++_, append-assoc}
 use mathlib.Core.Logic.{_⊎_, inl, inr, ⊎-elim}
 use mathlib.Core.Option.{Option, none, some}
-use Prim.Native.Nat.{ℕ, suc, _-_, _^_, _≤_, _<_}
+use Prim.Native.Nat.{ℕ, suc, _-_, _≤_, _<_}
 use native.Mathlib.Omega.{arith}
 use borrow.Author.Tests.{leb-true, leb-false}
 use lib.Dec.{leb}
@@ -22,20 +22,20 @@ use Rattle.replies.specs.Replies.{Said, done, isDone, changed}
 use Rattle.replies.proofs.Outcomes.{Complete, CutShort, changed-cut, changed-cases}
 use Rattle.rules.specs.declared.Call.{Call}
 use Rattle.rules.specs.declared.Call.the-variants.{Format, Get, Put, Remove, Mend, List as ListCall}
-use Rattle.rules.specs.Layout.{maxDepth, depth, segments, segmentOf, localDepth, entryAddress, keyAddress, valueAddress}
-use Rattle.rules.specs.Keys.{index}
+use Rattle.rules.specs.Layout.{maxDepth, segments, localDepth, keyAddress, valueAddress}
 use Rattle.rules.specs.Slots.{Choice, found, into, hit, choose}
 use Rattle.rules.specs.Get.{keyEntry, keySegment}
 use Rattle.rules.specs.Split.{splitting}
 use Rattle.rules.specs.Put.{keyChoice, put}
 use Rattle.rules.specs.Step.{Effect, changes, answers, effect, carriedOut, step, Performed}
-use Rattle.rules.specs.OneNumber.{AtMostOneWord, oneMore, nextAddress, OneMoreAllowed, OneMoreAllowedAt, OtherValue, valueIn, valueWord, NotStored, Stored, OtherValueAt, told, OneMorePerformed, OtherValuePerformed}
-use Rattle.rules.proofs.Words.{Inside, entry-inside, key-inside, value-inside}
-use Rattle.rules.proofs.Keys.{index-lt, window-lt}
-use Rattle.rules.proofs.Slots.{IntoSlot, chosen-at-hit, choose-same, key-after-value, hit-after-value, hit-after-key}
+use Rattle.rules.specs.OneNumber.{AtMostOneWord, oneMore, nextAddress, OneMoreAllowed, OneMoreAllowedAt, OtherValue, valueIn, valueWord, NotStored, Stored, OtherValueAt, outcomeBy, OneMorePerformed, OtherValuePerformed}
+use Rattle.rules.proofs.Words.{Inside}
+use Rattle.rules.proofs.Keys.{window-lt}
+use Rattle.rules.proofs.Slots.{chosen-at-hit, choose-same, key-after-value, hit-after-value, hit-after-key}
 use Rattle.rules.proofs.Halving.{keyBits}
-use Rattle.rules.proofs.Put.{Passed, passed-none, choice-found, choice-into, put-refused, put-found, put-into, put-too-deep, put-no-segment, put-again, renewed, inserted, put-induction}
-use Rattle.rules.proofs.Range.{hit-slot}
+use Rattle.rules.proofs.Put.{Passed, passed-none, KeyInto, choice-found, choice-into, put-refused, put-found, put-into, put-too-deep, put-no-segment, put-again, renewed, inserted, put-induction}
+use Rattle.rules.proofs.Range.{hit-slot, key-in-range, value-in-range}
+use Rattle.rules.proofs.Local.{SameFront, front-itself, front-word-0, front-key-entry, front-key-segment, front-store}
 
 -- At most the word at an address, or none: at most one word.
 pub at-most-one : (at : Option ℕ) (x y : List ℕ) → DifferAt at x y → AtMostOneWord x y
@@ -79,47 +79,32 @@ record Took (key at u : ℕ) (b : List ℕ) : Type 0 where
   pub value : word b at ≡ u
 
 module _ (a : List ℕ) (key : ℕ) (p : Passed a key) where
-  -- An array with the same word 0 and the same entries: the key's segment is the same, and a put chooses its slot there.
-  module _ (b : List ℕ) (same : (i : ℕ) → i < 2 ^ suc (maxDepth a) → word b i ≡ word a i) where
-    header-kept : word b 0 ≡ word a 0
-    header-kept = same 0 (omega arith)
-
-    entry-kept : keyEntry b key ≡ keyEntry a key
-    unfolding keyEntry
-    entry-kept =
-        rw header-kept
-        (same (entryAddress (depth a) (index key (depth a)))
-        (entry-inside (maxDepth a) (depth a) (index key (depth a)) (p .valid .present) (index-lt key (depth a))))
-
-    segment-kept : keySegment b key ≡ keySegment a key
-    unfolding keySegment
-    segment-kept = rw (entry-kept, header-kept)
-
-    choice-there : keyChoice b key ≡ choose b (keySegment a key) (localDepth (keyEntry a key)) (keyBits a key) key
-    unfolding keyChoice
-    choice-there = rw (segment-kept, entry-kept, header-kept)
+  -- In an array with the same word 0 and the same entries a put chooses its slot in the same segment.
+  choice-there : (b : List ℕ) → SameFront a b
+      → keyChoice b key ≡ choose b (keySegment a key) (localDepth (keyEntry a key)) (keyBits a key) key
+  unfolding keyChoice
+  choice-there b s =
+      rw (← front-key-segment s (p .valid .present) key, ← front-key-entry s (p .valid .present) key, ← front-word-0 s)
 
   -- The value u stored in slot j, and behind it perhaps the key.
   module _ (j : ℕ) (small : j < 64) (u : ℕ) where
-    value-at : Inside (maxDepth a) (segments a) (valueAddress (keySegment a key) j)
-    unfolding keySegment
-    value-at = value-inside (maxDepth a) (segments a) (segmentOf (keyEntry a key)) j (p .segment-below) small
-
-    key-at : Inside (maxDepth a) (segments a) (keyAddress (keySegment a key) j)
-    unfolding keySegment
-    key-at = key-inside (maxDepth a) (segments a) (segmentOf (keyEntry a key)) j (p .segment-below) small
-
     abbrev withValue : List ℕ
     withValue = set a (valueAddress (keySegment a key) j) u
 
     abbrev withKey : List ℕ
     withKey = set withValue (keyAddress (keySegment a key) j) key
 
-    front-valued : (i : ℕ) → i < 2 ^ suc (maxDepth a) → word withValue i ≡ word a i
-    front-valued i h = word-set-other a _ i u (λ e. let v = value-at .behind in omega arith)
+    value-at : Inside (maxDepth a) (segments a) (valueAddress (keySegment a key) j)
+    value-at = value-in-range a key j (p .segment-below) small
 
-    front-keyed : (i : ℕ) → i < 2 ^ suc (maxDepth a) → word withKey i ≡ word a i
-    front-keyed i h = word-set-other withValue _ i key (λ e. let v = key-at .behind in omega arith) ∙ front-valued i h
+    key-at : Inside (maxDepth a) (segments a) (keyAddress (keySegment a key) j)
+    key-at = key-in-range a key j (p .segment-below) small
+
+    front-valued : SameFront a withValue
+    front-valued = front-store (front-itself a) (valueAddress (keySegment a key) j) u (value-at .behind)
+
+    front-keyed : SameFront a withKey
+    front-keyed = front-store front-valued (keyAddress (keySegment a key) j) key (key-at .behind)
 
     value-stands : word withValue (valueAddress (keySegment a key) j) ≡ u
     value-stands = word-set-same a (valueAddress (keySegment a key) j) u (omega (arith, value-at .below, p .valid .room))
@@ -134,11 +119,14 @@ module _ (a : List ℕ) (key : ℕ) (p : Passed a key) where
 
     took-value : (c : Choice) → keyChoice a key ≡ c → valueIn (keySegment a key) c ≡ some (valueAddress (keySegment a key) j)
         → Took key (valueAddress (keySegment a key) j) u withValue
-    took-value c e s = record { slot = rw (segment-kept withValue front-valued, choice-valued, e) s; value = value-stands }
+    took-value c e s =
+        record {
+          slot = rw (← front-key-segment front-valued (p .valid .present) key, choice-valued, e) s;
+          value = value-stands;
+        }
 
     -- With the key too it finds the key there.
-    took-key : IntoSlot a (keySegment a key) (localDepth (keyEntry a key)) (keyBits a key) key j
-        → Took key (valueAddress (keySegment a key) j) u withKey
+    took-key : KeyInto a key j → Took key (valueAddress (keySegment a key) j) u withKey
     took-key s =
         let base : ℕ = keySegment a key in
         let inside : keyAddress base j < length withValue = rw length-set (omega (arith, key-at .below, p .valid .room)) in
@@ -147,7 +135,7 @@ module _ (a : List ℕ) (key : ℕ) (p : Passed a key) where
         let choice : keyChoice withKey key ≡ found j =
         choice-there withKey front-keyed ∙ chosen-at-hit withKey base (localDepth (keyEntry a key)) (keyBits a key) key j there in
         record {
-          slot = rw (segment-kept withKey front-keyed, choice);
+          slot = rw (← front-key-segment front-keyed (p .valid .present) key, choice);
           value = word-set-other withValue (keyAddress base j) (valueAddress base j) key (λ e. omega arith) ∙ value-stands;
         }
 
@@ -332,9 +320,9 @@ other-value a l key v w n =
 
 -- ---- Performed calls
 
--- What was told and left is the outcome.
-told-outcome : (call : Call) (a l : List ℕ) (r : Answer) (x l′ : List ℕ) → Performed call a l r x l′ → told r x ≡ (step a l call) .outcome
-told-outcome call a l r x l′ p = rw (p .answered .reply, p .answered .stores, p .answered .words)
+-- What was answered and left is the outcome.
+performed-outcome : (call : Call) (a l : List ℕ) (r : Answer) (x l′ : List ℕ) → Performed call a l r x l′ → outcomeBy r x ≡ (step a l call) .outcome
+performed-outcome call a l r x l′ p = rw (p .answered .reply, p .answered .stores, p .answered .words)
 
 pub one-more-performed : OneMorePerformed
 one-more-performed call a l r x l′ s y m′ p q =
@@ -342,5 +330,5 @@ one-more-performed call a l r x l′ s y m′ p q =
 
 pub other-value-performed : OtherValuePerformed
 other-value-performed key v w n a l r x l′ s y m′ p q =
-    rw (told-outcome (Put key v n) a l r x l′ p, told-outcome (Put key w n) a l s y m′ q)
+    rw (performed-outcome (Put key v n) a l r x l′ p, performed-outcome (Put key w n) a l s y m′ q)
     (other-value a l key v w n, other-value-at a l key v w n)

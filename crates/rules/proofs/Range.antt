@@ -34,7 +34,7 @@ use Rattle.rules.specs.Put.{putTests, put}
 use Rattle.rules.specs.Remove.{removeTests, clearedAt, remove}
 use Rattle.rules.specs.Mend.{mendTests, mendEntry, mending, mend}
 use Rattle.rules.specs.Step.{Effect, changes, answers, effect, carriedOut, step}
-use Rattle.rules.proofs.Words.{ValidHeader, valid-header, entry-inside, key-inside, value-inside, directories-below}
+use Rattle.rules.proofs.Words.{ValidHeader, valid-header, Inside, entry-inside, key-inside, value-inside, directories-below}
 use Rattle.rules.proofs.Keys.{window-lt}
 use Rattle.rules.proofs.Put.{unless-none, passed, choice-found, choice-into, put-induction}
 use Rattle.rules.proofs.Split.{splitting-in-range, AfterSplit, after-split}
@@ -88,13 +88,13 @@ unfolding hit
 hit-slot a base key j e = window-lt key j (first-some (λ j. eqb (word a (keyAddress base j)) key) (window key) j e .0)
 
 module _ (a : List ℕ) (key j : ℕ) (s : segmentOf (keyEntry a key) < segments a) (h : j < 64) where
-  key-below : keyAddress (keySegment a key) j < wordsFor (maxDepth a) (segments a)
+  pub key-in-range : Inside (maxDepth a) (segments a) (keyAddress (keySegment a key) j)
   unfolding keySegment
-  key-below = key-inside (maxDepth a) (segments a) (segmentOf (keyEntry a key)) j s h .below
+  key-in-range = key-inside (maxDepth a) (segments a) (segmentOf (keyEntry a key)) j s h
 
-  value-below : valueAddress (keySegment a key) j < wordsFor (maxDepth a) (segments a)
+  pub value-in-range : Inside (maxDepth a) (segments a) (valueAddress (keySegment a key) j)
   unfolding keySegment
-  value-below = value-inside (maxDepth a) (segments a) (segmentOf (keyEntry a key)) j s h .below
+  value-in-range = value-inside (maxDepth a) (segments a) (segmentOf (keyEntry a key)) j s h
 
 -- ---- Put, remove and mend
 
@@ -103,10 +103,10 @@ put-range a key value =
     put-induction key value (λ a p. Every (Below (maxDepth a) (segments a)) (p .due))
     (record {
       when-refused = λ a r e. Prim.tt;
-      when-found = λ a j p c. (value-below a key j (p .segment-below) (hit-slot a _ key j (choice-found a key j c)), Prim.tt);
+      when-found = λ a j p c. (value-in-range a key j (p .segment-below) (hit-slot a _ key j (choice-found a key j c)) .below, Prim.tt);
       when-into = λ a j p c.
           let h : j < 64 = window-lt key j (choice-into a key j c .in-window) in
-          (value-below a key j (p .segment-below) h, (key-below a key j (p .segment-below) h, Prim.tt));
+          (value-in-range a key j (p .segment-below) h .below, (key-in-range a key j (p .segment-below) h .below, Prim.tt));
       when-deep = λ a p c d. Prim.tt;
       when-none = λ a p c d f. Prim.tt;
       when-split = λ a n p c f s behind.
@@ -129,7 +129,7 @@ remove-range a key =
     tested-every (Below (maxDepth a) (segments a)) (removeTests a key) (clearedAt (keySegment a key) (hit a (keySegment a key) key))
     (λ e.
     cleared-every (Below (maxDepth a) (segments a)) (keySegment a key) (hit a (keySegment a key) key)
-    (λ j k. key-below a key j (passed a key e .segment-below) (hit-slot a (keySegment a key) key j k)))
+    (λ j k. key-in-range a key j (passed a key e .segment-below) (hit-slot a (keySegment a key) key j k) .below))
 
 pub mend-range : (a : List ℕ) → Every (Below (maxDepth a) (segments a)) ((mend a) .due)
 unfolding mend mendTests mending mendEntry

@@ -1,5 +1,5 @@
--- Document 02, wish 5: how much one number can change. Support compares what two calls have left, of one array, that differ in one
--- number: the allowance, or the value of a put.
+-- Document 02, wish 5: how much one number can change. Support compares what two calls leave of one array, that differ in one number
+-- alone: the allowance, or the value of a put.
 -- Assumes nothing.
 use Prim.Native.Nat.{ℕ, suc}
 use mathlib.Core.Path.{_≡_}
@@ -46,7 +46,7 @@ nextAddress (answers w) = none
 abbrev pub OneMoreAllowed : Type 0
 OneMoreAllowed = (a l : List ℕ) (call : Call) → AtMostOneWord ((step a l call) .outcome .after) ((step a l (oneMore call)) .outcome .after)
 
--- And it is that word.
+-- The one word is that one; where there is none, the arrays left are the same.
 abbrev pub OneMoreAllowedAt : Type 0
 OneMoreAllowedAt =
     (a l : List ℕ) (call : Call)
@@ -92,7 +92,7 @@ pub record Stored (key v w : ℕ) (o p : Outcome Said) : Type 0 where
   pub second-value : word (p .after) address ≡ w
   pub same : SameBut address (o .after) (p .after)
 
--- And which word it is, or that it is none.
+-- It is one or the other.
 abbrev pub OtherValueAt : Type 0
 OtherValueAt =
     (a l : List ℕ) (key v w allowance : ℕ)
@@ -109,12 +109,12 @@ OneMorePerformed =
     → AtMostOneWord x y × DifferAt (nextAddress (effect a (length l) call)) x y
 
 -- What a performed call has answered and left, as an outcome.
-abbrev pub told : Answer → (after : List ℕ) → Outcome Said
-told answer after = record { reply = saidBy (answer .reply); made = answer .stores; after = after }
+abbrev pub outcomeBy : Answer → (after : List ℕ) → Outcome Said
+outcomeBy answer after = record { reply = saidBy (answer .reply); made = answer .stores; after = after }
 
 -- A put with another value.
 abbrev pub OtherValuePerformed : Type 0
 OtherValuePerformed =
     (key v w allowance : ℕ) (a l : List ℕ) (r : Answer) (x l′ : List ℕ) (s : Answer) (y m′ : List ℕ)
     → Performed (Put key v allowance) a l r x l′ → Performed (Put key w allowance) a l s y m′
-    → SameButOneWord (told r x) (told s y) × (NotStored (told r x) (told s y) ⊎ Stored key v w (told r x) (told s y))
+    → SameButOneWord (outcomeBy r x) (outcomeBy s y) × (NotStored (outcomeBy r x) (outcomeBy s y) ⊎ Stored key v w (outcomeBy r x) (outcomeBy s y))
