@@ -39,13 +39,14 @@ fn one_more(call: Call) -> Option<Call> {
 }
 
 /// Two puts that differ in the value. The word is the value word of the slot with the key, once that is stored.
-fn compare_values(words: &[u64], (key, v, w, n): (u64, u64, u64, u32), counts: &mut Counts) {
-    let ((answer, x), (other, y)) = (left(words, Call::Put(key, v, n)), left(words, Call::Put(key, w, n)));
-    assert_eq!(answer, other, "put of {key}: the values {v} and {w} are answered otherwise");
-    let address = apart(&x, &y, Call::Put(key, v, n));
+fn compare_values(words: &[u64], key: u64, values: [u64; 2], allowance: u32, counts: &mut Counts) {
+    let [put, other] = values.map(|value| Call::Put(key, value, allowance));
+    let ((answer, x), (second, y)) = (left(words, put), left(words, other));
+    assert_eq!(answer, second, "{put:?}: the answer differs with another value");
+    let address = apart(&x, &y, put);
     counts.value[address.is_some() as usize] += 1;
     if let Some(at) = address {
-        assert_eq!((x[at], y[at]), (v, w));
+        assert_eq!([x[at], y[at]], values);
         match answer.code {
             DONE => assert_eq!((x[at - 1], y[at - 1]), (key, key)),
             code => assert_eq!(code, CUT_OFF),
@@ -60,8 +61,8 @@ pub fn compare(words: &[u64], call: Call, other: u64, counts: &mut Counts) {
         let address = apart(&left(words, call).1, &left(words, more).1, call);
         counts.allowance[address.is_some() as usize] += 1;
     }
-    if let Call::Put(key, value, n) = call {
-        compare_values(words, (key, value, other, n), counts);
+    if let Call::Put(key, value, allowance) = call {
+        compare_values(words, key, [value, other], allowance, counts);
     }
 }
 
