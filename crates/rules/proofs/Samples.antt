@@ -13,7 +13,7 @@ use Rattle.rules.specs.declared.Call.{Call}
 use Rattle.rules.specs.declared.Call.the-variants.{Format, Get, Put, Remove, Mend}
 use Rattle.replies.specs.Replies.{Said, done, absent, refused}
 use Rattle.rules.proofs.Table.{Names, Lookup, Row, buckets, indexed, state, listing, oneMoreAllowed, otherValue, allPass}
-use Rattle.rules.proofs.States.{F, P, fill, stands, names, page, missing, pages, row, sixteen, sixteenApart, P263, P1030}
+use Rattle.rules.proofs.States.{F, P, fill, stands, names, page, missing, pages, row, sixteen, P263, P1030}
 
 -- ---- Damage to an index of D = 2, S = 4
 
@@ -43,13 +43,17 @@ slot j key = store (8 + 2 * j) key ∷ store (9 + 2 * j) (10 * key) ∷ []
 abbrev oldStore : List Store
 oldStore = store 0 0x5041474500040200 ∷ slot 28 7
 
--- Slots 28 to 43 of segment 0 with sixteen keys whose first directory bit is 0.
+-- n slots of segment 0 from 28 on with the pages of the keys `from`, `from` + `by` and so on.
+abbrev slots : (from by n : ℕ) → List Store
+slots from by n = each (λ i. slot (28 + i) (from + by * i)) n
+
+-- Slots 28 to 43 with sixteen keys whose first directory bit is 0.
 abbrev fullLeft : List Store
-fullLeft = each (λ i. slot (28 + i) (7 + 32 * i)) 16
+fullLeft = slots 7 32 16
 
 -- An index of depth 1 with two blocks, in which n slots of segment 0 from 28 on have the keys `from`, `from` + 32 and so on.
 abbrev twoBlocks : (from n : ℕ) → List Store
-twoBlocks from n = present 1 ∷ entry₁ 0 0 1 ∷ entry₁ 1 1 1 ∷ each (λ i. slot (28 + i) (from + 32 * i)) n
+twoBlocks from n = present 1 ∷ entry₁ 0 0 1 ∷ entry₁ 1 1 1 ∷ slots from 32 n
 
 -- With keys of the right block, which are stale in segment 0.
 abbrev staleLeft : (n : ℕ) → List Store
@@ -107,16 +111,23 @@ mixedOrders =
 
 -- ---- One number more, or another
 
--- A call on 520 words with an allowance larger by one; and a put with the value 2 in place of 1.
-abbrev more : List Call → List Store → Call → (next apart : List ℕ) → Row
-more before damage call next apart = oneMoreAllowed 520 before damage call next apart
+-- On an index with damage: a call with an allowance larger by one; and a put with the value 2 in place of 1.
+abbrev more : List Store → Call → (next apart : List ℕ) → Row
+more damage call next apart = oneMoreAllowed 520 (F 4 ∷ []) damage call next apart
 
-abbrev other : List Call → List Store → (key allowance : ℕ) → (apart : List ℕ) → Row
-other before damage key allowance apart = otherValue 520 before damage key 1 2 allowance apart
+abbrev other : List Store → (key allowance : ℕ) → (apart : List ℕ) → Row
+other damage key allowance apart = otherValue 520 (F 4 ∷ []) damage key 1 2 allowance apart
 
--- Known state g: the split is cut between its entries.
-abbrev halfSplit : List Call
-halfSplit = sixteen 4 ++ (P263 76 ∷ [])
+-- Words before a format, none of which it leaves.
+abbrev notFormatted : List Store
+notFormatted = store 0 5 ∷ store 64 7 ∷ []
+
+-- The pages of the sixteen puts of state e, and of those of state i, where these leave them.
+abbrev sixteenPages : List Store
+sixteenPages = slots 7 16 16
+
+abbrev sixteenApartPages : List Store
+sixteenApartPages = slots 7 64 16
 
 pub samples : List Row
 unfolding each
@@ -232,43 +243,43 @@ samples =
     ∷ unlisted (Format 3 4 10000 ∷ []) mixedOrders 10 13
     -- the put that splits, allowed one store more: word 0, a copied key, a key word cleared where one stood and where none did, the
     -- entries, value, key; all its stores are 79
-    ∷ more (sixteen 4) [] (P263 2) (0 ∷ []) (0 ∷ [])
-    ∷ more (sixteen 4) [] (P263 39) (202 ∷ []) (202 ∷ [])
-    ∷ more (sixteen 4) (store 204 9 ∷ []) (P263 40) (204 ∷ []) (204 ∷ [])
-    ∷ more (sixteen 4) [] (P263 40) (204 ∷ []) []
-    ∷ more (sixteen 4) [] (P263 75) (3 ∷ []) (3 ∷ [])
-    ∷ more (sixteen 4) [] (P263 76) (2 ∷ []) (2 ∷ [])
-    ∷ more (sixteen 4) [] (P263 77) (67 ∷ []) (67 ∷ [])
-    ∷ more (sixteen 4) [] (P263 78) (66 ∷ []) (66 ∷ [])
-    ∷ more (sixteen 4) [] (P263 79) [] []
-    -- a format, a remove that finds its key and one that does not, a mend, and a put refused by 3, by 4 and by 5
-    ∷ more [] (store 0 5 ∷ store 64 7 ∷ []) (Format 2 4 0) (0 ∷ []) (0 ∷ [])
-    ∷ more [] (store 0 5 ∷ store 64 7 ∷ []) (Format 2 4 30) (64 ∷ []) (64 ∷ [])
-    ∷ more [] (store 0 5 ∷ store 64 7 ∷ []) (Format 2 4 66) (0 ∷ []) (0 ∷ [])
-    ∷ more (F 4 ∷ P 7 ∷ []) [] (Remove 7 0) (64 ∷ []) (64 ∷ [])
-    ∷ more (F 4 ∷ P 7 ∷ []) [] (Remove 23 0) [] []
-    ∷ more (F 4 ∷ []) (four 0 0 1 1 1 1 1 1) (Mend 1) (6 ∷ []) (6 ∷ [])
-    ∷ more (F 4 ∷ []) (four 0 0 1 1 1 1 1 1) (Mend 3) [] []
-    ∷ more (F 4 ∷ []) (four 0 1 1 1 9 1 9 1) (Put 7 70 40) [] []
-    ∷ more halfSplit [] (P263 40) [] []
-    ∷ more (sixteenApart 4) [] (P1030 139) (4 ∷ []) (4 ∷ [])
-    ∷ more (sixteenApart 4) [] (P1030 140) [] []
+    ∷ more sixteenPages (P263 2) (0 ∷ []) (0 ∷ [])
+    ∷ more sixteenPages (P263 39) (202 ∷ []) (202 ∷ [])
+    ∷ more (store 204 9 ∷ sixteenPages) (P263 40) (204 ∷ []) (204 ∷ [])
+    ∷ more sixteenPages (P263 40) (204 ∷ []) []
+    ∷ more sixteenPages (P263 75) (3 ∷ []) (3 ∷ [])
+    ∷ more sixteenPages (P263 76) (2 ∷ []) (2 ∷ [])
+    ∷ more sixteenPages (P263 77) (67 ∷ []) (67 ∷ [])
+    ∷ more sixteenPages (P263 78) (66 ∷ []) (66 ∷ [])
+    ∷ more sixteenPages (P263 79) [] []
+    -- a format, a remove that finds its key and one that does not, a mend, a put refused by 3 and by 4, and one that with all its stores is
+    -- refused by 5
+    ∷ oneMoreAllowed 520 [] notFormatted (Format 2 4 0) (0 ∷ []) (0 ∷ [])
+    ∷ oneMoreAllowed 520 [] notFormatted (Format 2 4 30) (64 ∷ []) (64 ∷ [])
+    ∷ oneMoreAllowed 520 [] notFormatted (Format 2 4 66) (0 ∷ []) (0 ∷ [])
+    ∷ more (slot 28 7) (Remove 7 0) (64 ∷ []) (64 ∷ [])
+    ∷ more (slot 28 7) (Remove 23 0) [] []
+    ∷ more (four 0 0 1 1 1 1 1 1) (Mend 1) (6 ∷ []) (6 ∷ [])
+    ∷ more (four 0 0 1 1 1 1 1 1) (Mend 3) [] []
+    ∷ more (four 0 1 1 1 9 1 9 1) (Put 7 70 40) [] []
+    ∷ more (four 0 1 1 1 2 1 2 1) (Put 7 70 40) [] []
+    ∷ more sixteenApartPages (P1030 139) (4 ∷ []) (4 ∷ [])
     -- the put that splits, with another value: cut before the value, between value and key, and whole
-    ∷ other (sixteen 4) [] 263 40 []
-    ∷ other (sixteen 4) [] 263 77 []
-    ∷ other (sixteen 4) [] 263 78 (67 ∷ [])
-    ∷ other (sixteen 4) [] 263 10000 (67 ∷ [])
+    ∷ other sixteenPages 263 40 []
+    ∷ other sixteenPages 263 77 []
+    ∷ other sixteenPages 263 78 (67 ∷ [])
+    ∷ other sixteenPages 263 10000 (67 ∷ [])
     -- a put of a new key and of one that is there, also where a second slot has it; 0 is a value as any other
-    ∷ other (F 4 ∷ []) [] 7 10000 (65 ∷ [])
-    ∷ other (F 4 ∷ P 7 ∷ []) [] 7 10000 (65 ∷ [])
-    ∷ other (F 4 ∷ P 7 ∷ []) (slot 29 7) 7 10000 (65 ∷ [])
+    ∷ other [] 7 10000 (65 ∷ [])
+    ∷ other (slot 28 7) 7 10000 (65 ∷ [])
+    ∷ other (slot 28 7 ++ slot 29 7) 7 10000 (65 ∷ [])
     ∷ otherValue 520 (F 4 ∷ []) [] 7 0 1 10000 (65 ∷ [])
     -- a put refused by 1, 3, 4, 5 and 6
-    ∷ other [] [] 7 10000 []
-    ∷ other (F 4 ∷ []) (four 0 1 1 1 9 1 9 1) 7 10000 []
-    ∷ other halfSplit [] 263 10000 []
-    ∷ other (sixteenApart 4) [] 1030 10000 []
-    ∷ otherValue 136 (sixteen 1) [] 263 1 2 10000 []
+    ∷ otherValue 520 [] [] 7 1 2 10000 []
+    ∷ other (four 0 1 1 1 9 1 9 1) 7 10000 []
+    ∷ other (four 0 1 1 1 2 1 2 1) 7 10000 []
+    ∷ other sixteenApartPages 1030 10000 []
+    ∷ otherValue 136 (F 1 ∷ []) sixteenPages 263 1 2 10000 []
     ∷ []
 
 pub samples-pass : allPass samples ≡ true
