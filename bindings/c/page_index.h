@@ -22,8 +22,8 @@
  *
  * Two arrays compared. Of one array and one call, an allowance larger by one changes at most one word of
  * what is left: the word of the one store more. Two puts that differ in the value alone have the same
- * code and the same stores, and what they leave differs at most in the value word of the key's slot; not
- * at all where the put is refused, or cut off before it stores the value.
+ * code and the same number of stores, and what they leave differs at most in the value word of the key's
+ * slot; not at all where the put is refused, or cut off before it stores the value.
  *
  * Keys. Every number but 0 is a key. Where it goes is taken from the low 4 + `depth` bits of its folded
  * key, key ^ key / 1024; the array holds the key itself.

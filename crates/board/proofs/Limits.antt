@@ -32,19 +32,29 @@ use Rattle.board.specs.Print.{monthLookups, yearLookups, printOver, allN
 abbrev refusedOn : List ℕ → Refusal → Outcome Said
 refusedOn a r = record { reply = refuse r; made = 0; after = a }
 
+-- What holds of two calls of the index, and of every refusal by the board's tests, holds of the board's two calls on one job.
+jobs-law : (a b : List ℕ) (year month number : ℕ) (call other : ℕ → Call) (P : (o p : Outcome Said) → Type 0)
+    → ((r : Refusal) → P (refusedOn a r) (refusedOn b r))
+    → P (outcomeOf a (call (jobKey year month number))) (outcomeOf b (other (jobKey year month number)))
+    → P (onJob a year month number call) (onJob b year month number other)
+unfolding onJob behind
+jobs-law a b year month number call other P otherwise passed = go (jobTests year month number)
+  where
+    key : ℕ
+    key = jobKey year month number
+
+    go : (t : Option Refusal) → P (behind t a (outcomeOf a (call key))) (behind t b (outcomeOf b (other key)))
+    go none = passed
+    go (some r) = otherwise r
+
 module _ (a : List ℕ) (year month number : ℕ) (call : ℕ → Call) where
   -- The key of the job.
   abbrev key : ℕ
   key = jobKey year month number
 
-  -- What holds of the index's call and of every refusal by the board's tests holds of the board's call.
+  -- The same of one call.
   job-law : (P : Outcome Said → Type 0) → ((r : Refusal) → P (refusedOn a r)) → P (outcomeOf a (call key)) → P (onJob a year month number call)
-  unfolding onJob behind
-  job-law P otherwise passed = go (jobTests year month number)
-    where
-      go : (t : Option Refusal) → P (behind t a (outcomeOf a (call key)))
-      go none = passed
-      go (some r) = otherwise r
+  job-law P = jobs-law a a year month number call call (λ o p. P o)
 
   -- The array keeps its length, and words beyond those that the call may touch stay.
   pub job-length : length ((onJob a year month number call) .after) ≡ length a
@@ -62,13 +72,9 @@ module _ (a : List ℕ) (year month number : ℕ) (call : ℕ → Call) where
 -- Reply and stores follow from the words that D and S take, and the length.
 pub job-local : (a b : List ℕ) (year month number : ℕ) (call : ℕ → Call) → Alike a b (call (jobKey year month number))
     → SameOutcome a b (onJob a year month number call) (onJob b year month number call)
-unfolding onJob behind
-job-local a b year month number call s = go (jobTests year month number)
-  where
-    go : (t : Option Refusal)
-        → SameOutcome a b (behind t a (outcomeOf a (call (jobKey year month number)))) (behind t b (outcomeOf b (call (jobKey year month number))))
-    go none = step-local a b [] (call (jobKey year month number)) s
-    go (some r) = record { reply = refl; made = refl; words = λ i h. h }
+job-local a b year month number call s =
+    jobs-law a b year month number call call (SameOutcome a b) (λ r. record { reply = refl; made = refl; words = λ i h. h })
+    (step-local a b [] (call (jobKey year month number)) s)
 
 -- A set makes at most as many stores as a put.
 put-made : (a : List ℕ) (key value allowance : ℕ) → (outcomeOf a (Put key value allowance)) .made ≤ 9764
@@ -85,28 +91,17 @@ set-bound a year month number pages allowance =
 -- An allowance larger by one changes at most one word.
 pub job-one-more : (a : List ℕ) (year month number : ℕ) (call : ℕ → Call)
     → AtMostOneWord ((onJob a year month number call) .after) ((onJob a year month number (λ key. oneMore (call key))) .after)
-unfolding onJob behind
-job-one-more a year month number call = go (jobTests year month number)
-  where
-    key : ℕ
-    key = jobKey year month number
-
-    go : (t : Option Refusal) → AtMostOneWord ((behind t a (outcomeOf a (call key))) .after) ((behind t a (outcomeOf a (oneMore (call key)))) .after)
-    go none = one-more-allowed a [] (call key)
-    go (some r) = at-most-one none a a refl
+job-one-more a year month number call =
+    jobs-law a a year month number call (λ key. oneMore (call key)) (λ o p. AtMostOneWord (o .after) (p .after))
+    (λ r. at-most-one none a a refl) (one-more-allowed a [] (call (jobKey year month number)))
 
 -- A set with another number of pages has the same reply and the same store count, and changes at most one word.
 pub set-other-pages : (a : List ℕ) (year month number v w allowance : ℕ)
     → SameButOneWord (setJob a year month number v allowance) (setJob a year month number w allowance)
-unfolding onJob behind
-set-other-pages a year month number v w allowance = go (jobTests year month number)
-  where
-    put : (pages : ℕ) → Call
-    put pages = Put (jobKey year month number) pages allowance
-
-    go : (t : Option Refusal) → SameButOneWord (behind t a (outcomeOf a (put v))) (behind t a (outcomeOf a (put w)))
-    go none = other-value a [] (jobKey year month number) v w allowance
-    go (some r) = record { reply = refl; made = refl; words = at-most-one none a a refl }
+set-other-pages a year month number v w allowance =
+    jobs-law a a year month number (λ key. Put key v allowance) (λ key. Put key w allowance) SameButOneWord
+    (λ r. record { reply = refl; made = refl; words = at-most-one none a a refl })
+    (other-value a [] (jobKey year month number) v w allowance)
 
 -- ---- A print
 

@@ -14,7 +14,7 @@ use Rattle.stores.specs.Store.{Store, word, store, apply, exec}
 use Rattle.stores.specs.Plan.{Plan, _then_, cut}
 use Rattle.stores.specs.Difference.{DifferAt}
 use Rattle.stores.proofs.Tests.{cases}
-use Rattle.stores.proofs.Stores.{apply-append, word-set-same, word-set-other}
+use Rattle.stores.proofs.Stores.{apply-append, word-set-same}
 use Rattle.stores.proofs.Prefixes.{always-none, always-one}
 use Rattle.stores.proofs.Differences.{one-more, valued, valued-length, value-made, before-value, with-value}
 use Rattle.replies.specs.declared.Answer.{Answer}
@@ -31,7 +31,7 @@ use Rattle.rules.specs.Step.{Effect, changes, answers, effect, carriedOu
 use Rattle.rules.specs.OneNumber.{AtMostOneWord, oneMore, nextAddress, OneMoreAllowed, OneMoreAllowedAt, OtherValue, valueIn, valueWord, NotStored, Stored, OtherValueAt, outcomeBy, OneMorePerformed, OtherValuePerformed}
 use Rattle.rules.proofs.Words.{Inside}
 use Rattle.rules.proofs.Keys.{window-lt}
-use Rattle.rules.proofs.Slots.{chosen-at-hit, choose-same, key-after-value, hit-after-value, hit-after-key}
+use Rattle.rules.proofs.Slots.{chosen-at-hit, choose-same, key-after-value, hit-after-value, value-after-key, hit-after-key}
 use Rattle.rules.proofs.Halving.{keyBits}
 use Rattle.rules.proofs.Put.{Passed, passed-none, KeyInto, choice-found, choice-into, put-refused, put-found, put-into, put-too-deep, put-no-segment, put-again, renewed, inserted, put-induction}
 use Rattle.rules.proofs.Range.{hit-slot, key-in-range, value-in-range}
@@ -136,7 +136,7 @@ module _ (a : List ℕ) (key : ℕ) (p : Passed a key) where
         choice-there withKey front-keyed ∙ chosen-at-hit withKey base (localDepth (keyEntry a key)) (keyBits a key) key j there in
         record {
           slot = rw (← front-key-segment front-keyed (p .valid .present) key, choice);
-          value = word-set-other withValue (keyAddress base j) (valueAddress base j) key (λ e. omega arith) ∙ value-stands;
+          value = value-after-key withValue base j key j ∙ value-stands;
         }
 
 -- ---- The plans of two puts that differ in the value
@@ -160,6 +160,7 @@ record NoStoreOfValue (p q : Plan Said) : Type 0 where
   pub refuses : isDone (p .reply) ≡ false
   pub same : p ≡ q
 
+-- How the plans of two puts compare.
 abbrev Plans : (key v w : ℕ) → List ℕ → (p q : Plan Said) → Type 0
 Plans key v w a p q = NoStoreOfValue p q ⊎ OneStore key v w a p q
 
@@ -185,16 +186,16 @@ module _ (key v w : ℕ) where
   both-into a j p c =
       let s = choice-into a key j c in
       let small : j < 64 = window-lt key j (s .in-window) in
-      let last : List Store = store (keyAddress (keySegment a key) j) key ∷ [] in
+      let key-store : Store = store (keyAddress (keySegment a key) j) key in
       record {
         front = [];
         at = valueAddress (keySegment a key) j;
-        behind = last;
+        behind = key-store ∷ [];
         first = refl;
         second = put-into a key w (passed-none p) j c;
         took = λ u.
-            always-one (Took key (valueAddress (keySegment a key) j) u) (store (keyAddress (keySegment a key) j) key)
-            (withValue a key p j small u) (took-value a key p j small u (into j) c refl) (took-key a key p j small u s);
+            always-one (Took key (valueAddress (keySegment a key) j) u) key-store (withValue a key p j small u)
+            (took-value a key p j small u (into j) c refl) (took-key a key p j small u s);
       }
 
   -- Behind a split as before it.
@@ -213,6 +214,7 @@ module _ (key v w : ℕ) where
         took = rw (apply-append ss (r .front) a) (r .took);
       })
 
+  -- On every array: by induction over the splits of the first put.
   put-plans : (a : List ℕ) → Plans key v w a (put a key v) (put a key w)
   put-plans =
       put-induction key v (λ a p. Plans key v w a p (put a key w))

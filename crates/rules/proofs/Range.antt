@@ -14,7 +14,7 @@ use Rattle.stores.specs.Lists.{pick, each}
 use Rattle.stores.specs.Store.{Store, word, store, apply, Every}
 use Rattle.stores.specs.Plan.{Plan}
 use Rattle.stores.proofs.Tests.{and-left, and-right}
-use Rattle.stores.proofs.Lists.{every-append, every-each, every-map, first-some}
+use Rattle.stores.proofs.Lists.{every-append, every-each, every-map}
 use Rattle.stores.proofs.Stores.{word-elsewhere}
 use Rattle.stores.proofs.Lists.{every-take}
 use Rattle.stores.proofs.Plans.{after-cut, length-cut}
@@ -23,7 +23,6 @@ use Rattle.replies.specs.declared.Refusal.the-variants.{NoStore, CutOff, BadSha
 use Rattle.rules.specs.declared.Call.{Call}
 use Rattle.rules.specs.declared.Call.the-variants.{Format, Get, Put, Remove, Mend, List as ListCall}
 use Rattle.rules.specs.Layout.{header, depth, maxDepth, segments, wordsFor, validShape, validHeader, entryAddress, entryAt, segmentOf, segmentAddress, keyAddress, valueAddress}
-use Rattle.rules.specs.Keys.{window}
 use Rattle.rules.specs.Scan.{leadingEntry}
 use Rattle.rules.specs.Slots.{hit}
 use Rattle.replies.specs.Replies.{Said, done, refuse, tested, changed}
@@ -34,6 +33,7 @@ use Rattle.rules.specs.Put.{putTests, put}
 use Rattle.rules.specs.Remove.{removeTests, clearedAt, remove}
 use Rattle.rules.specs.Mend.{mendTests, mendEntry, mending, mend}
 use Rattle.rules.specs.Step.{Effect, changes, answers, effect, carriedOut, step}
+use Rattle.rules.proofs.Slots.{hit-window}
 use Rattle.rules.proofs.Words.{ValidHeader, valid-header, Inside, entry-inside, key-inside, value-inside, directories-below}
 use Rattle.rules.proofs.Keys.{window-lt}
 use Rattle.rules.proofs.Put.{unless-none, passed, choice-found, choice-into, put-induction}
@@ -84,8 +84,7 @@ format-range a D S =
 -- ---- The slot that a search finds
 
 pub hit-slot : (a : List ℕ) (base key j : ℕ) → hit a base key ≡ some j → j < 64
-unfolding hit
-hit-slot a base key j e = window-lt key j (first-some (λ j. eqb (word a (keyAddress base j)) key) (window key) j e .0)
+hit-slot a base key j e = window-lt key j (hit-window a base key j e)
 
 module _ (a : List ℕ) (key j : ℕ) (s : segmentOf (keyEntry a key) < segments a) (h : j < 64) where
   pub key-in-range : Inside (maxDepth a) (segments a) (keyAddress (keySegment a key) j)

@@ -180,18 +180,9 @@ module _ (a b : List ℕ) (base base′ : ℕ) (same : (j : ℕ) → j < 64 → 
 
 -- ---- A store in a slot
 
-key-not-value : (base j k : ℕ) → keyAddress base j ≡ valueAddress base k → ⊥
-key-not-value base j k e = omega arith
-
-value-inj : (base j k : ℕ) → valueAddress base j ≡ valueAddress base k → j ≡ k
-value-inj base j k e = omega arith
-
-key-inj : (base j k : ℕ) → keyAddress base j ≡ keyAddress base k → j ≡ k
-key-inj base j k e = omega arith
-
 -- A new value at slot j: keys stay, and the values of other slots.
 pub key-after-value : (a : List ℕ) (base j v k : ℕ) → keyAt (set a (valueAddress base j) v) base k ≡ keyAt a base k
-key-after-value a base j v k = word-set-other a (valueAddress base j) (keyAddress base k) v (key-not-value base k j)
+key-after-value a base j v k = word-set-other a (valueAddress base j) (keyAddress base k) v (λ e. omega arith)
 
 pub hit-after-value : (a : List ℕ) (base j v key : ℕ) → hit (set a (valueAddress base j) v) base key ≡ hit a base key
 unfolding hit
@@ -199,15 +190,14 @@ hit-after-value a base j v key =
     first-same _ _ (window key) (λ k w. ap (λ (x : ℕ). eqb x key) (key-after-value a base j v k))
 
 pub value-after-value : (a : List ℕ) (base j v k : ℕ) → (k ≡ j → ⊥) → valueAt (set a (valueAddress base j) v) base k ≡ valueAt a base k
-value-after-value a base j v k d =
-    word-set-other a (valueAddress base j) (valueAddress base k) v (λ e. d (value-inj base k j e))
+value-after-value a base j v k d = word-set-other a (valueAddress base j) (valueAddress base k) v (λ e. d (omega arith))
 
 -- A new key at slot j: values stay, and the keys of other slots.
 pub value-after-key : (a : List ℕ) (base j x k : ℕ) → valueAt (set a (keyAddress base j) x) base k ≡ valueAt a base k
-value-after-key a base j x k = word-set-other a (keyAddress base j) (valueAddress base k) x (λ e. key-not-value base j k (sym e))
+value-after-key a base j x k = word-set-other a (keyAddress base j) (valueAddress base k) x (λ e. omega arith)
 
 pub key-after-key : (a : List ℕ) (base j x k : ℕ) → (k ≡ j → ⊥) → keyAt (set a (keyAddress base j) x) base k ≡ keyAt a base k
-key-after-key a base j x k d = word-set-other a (keyAddress base j) (keyAddress base k) x (λ e. d (key-inj base k j e))
+key-after-key a base j x k d = word-set-other a (keyAddress base j) (keyAddress base k) x (λ e. d (omega arith))
 
 -- A key that the window did not have, stored into slot j: no other slot of the window has it,
 pub only-after-key : (a : List ℕ) (base key j : ℕ) → ((k : ℕ) → List·Memᴰ k (window key) → keyAt a base k ≡ key → ⊥)
