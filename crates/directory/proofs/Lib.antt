@@ -5,4 +5,5 @@ pub mod Segments
 pub mod Blocks
 pub mod Doubles
 pub mod Updates
+pub mod Buddies
 pub mod Mends

@@ -2,3 +2,4 @@
 pub mod Scans
 pub mod Frees
 pub mod Updates
+pub mod Buddies

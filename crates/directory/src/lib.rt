@@ -1,7 +1,9 @@
 // The directory of the index: the scan over the blocks, the free segment, and the directory's part of a
-// split and of a mend.
+// split, of a merge and of a mend.
+pub mod buddy;
 pub mod double;
 pub mod free;
+pub mod join;
 pub mod mend;
 pub mod scan;
 pub mod update;

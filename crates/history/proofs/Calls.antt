@@ -26,6 +26,7 @@ use Rattle.rules.specs.Format.{formatTests, format}
 use Rattle.rules.specs.Get.{keySegment, keyTests, entryTests, getTests, get}
 use Rattle.rules.specs.Put.{putTests, put}
 use Rattle.rules.specs.Remove.{removeTests, clearedAt, remove}
+use Rattle.rules.specs.Merge.{mergeTests, merge}
 use Rattle.rules.specs.Mend.{mending, mend}
 use Rattle.rules.specs.Listing.{records, listTests, list}
 use Rattle.rules.proofs.Words.{header-valid}
@@ -42,6 +43,7 @@ use Rattle.history.proofs.Kept.{Whole, whole-kept}
 use Rattle.history.proofs.Changes.{key-removed, updated-other}
 use Rattle.history.proofs.Mend.{mending-kept, mended-recovered}
 use Rattle.history.proofs.Plans.{PlanKept, refusal-kept, Good, CallKept, nothing-changed, plan-carried-out}
+use Rattle.history.proofs.Merge.{merge-plan}
 use Rattle.history.proofs.Put.{own-segment, own-live, own-hit, put-kept}
 
 -- ---- Key 0
@@ -196,6 +198,23 @@ remove-called p good calm key allowance =
     zero : (key ≡ 0 → ⊥) → (b : Bool) → fed (removes key) b (p .map) 0 ≡ none
     zero nonzero true = zero-after (p .map) (good .zero-none) key none nonzero
     zero nonzero false = good .zero-none
+
+-- ---- Merge
+
+pub merge-called : (p : Point) → Good p → p .needsRecovery ≡ false → (key allowance : ℕ)
+    → CallKept p keeps ((changed allowance (merge (p .array) key) (p .array)) .reply) ((changed allowance (merge (p .array) key) (p .array)) .after)
+unfolding fed merge mergeTests
+merge-called p good calm key allowance =
+    let w = good .whole calm in
+    ⊎-elim
+    (λ (z : eqb key 0 ≡ true).
+    rw (eqb-true key 0 z, zero-key-tests (w .inv), tested-some)
+    (plan-carried-out p keeps allowance (reply-only (refuse NoKey)) (refusal-kept keeps NoKey refl refl refl w)
+    (λ said. Prim.tt) (good .zero-none) (good .zero-none) refl))
+    (λ (z : eqb key 0 ≡ false).
+    plan-carried-out p keeps allowance (merge (p .array) key) (merge-plan (w .inv) (w .recovered) key (eqb-false key 0 z))
+    (λ said. Prim.tt) (good .zero-none) (good .zero-none) refl)
+    (cases (eqb key 0))
 
 -- ---- Mend
 

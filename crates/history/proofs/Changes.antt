@@ -14,6 +14,7 @@ use lib.ListN.{length, set, length-set}
 use lib.Pow.{pow-pos}
 use Rattle.stores.proofs.Tests.{cases}
 use Rattle.stores.proofs.Stores.{word-set-same, word-set-other}
+use Rattle.stores.specs.Store.{word}
 use Rattle.rules.specs.Layout.{wordsFor, entryAddress, segmentOf, localDepth, keyAddress, valueAddress, keyAt, valueAt}
 use Rattle.rules.specs.Keys.{live, window}
 use Rattle.rules.specs.Slots.{hit}
@@ -22,7 +23,7 @@ use Rattle.rules.proofs.Keys.{live-nonzero, live-empty, window-lt}
 use Rattle.rules.proofs.Blocks.{bitsAt}
 use Rattle.rules.proofs.Slots.{hit-none, hit-window, hit-key, key-after-value, key-after-key}
 use Rattle.runs.specs.Map.{Map, updated}
-use Rattle.history.proofs.Holds.{Holds, holds-new-value, holds-new-key, holds-removed, holds-other-value, holds-other-key}
+use Rattle.history.proofs.Holds.{Holds, holds-same, holds-new-value, holds-new-key, holds-removed, holds-other-value, holds-other-key}
 use Rattle.history.proofs.Invariant.{Inv, LiveAt, BlockChanged, baseAt}
 
 -- ---- The map with another value for one key
@@ -135,6 +136,45 @@ module _ {m : Map} {g d S : ℕ} {f : ℕ → ℕ} {a : List ℕ} (inv : Inv m g
       holds-other-value (m key) a (baseAt d f i) key j v (unlike-stale key (keyAt a (baseAt d f i) j) t stale)
       (inv .holds i below key t))
       (windows-after-value j v)
+
+  -- Any change of slots that are not live, to keys that are not live, is not seen.
+  pub slots-unseen : (b : List ℕ) → length b ≡ length a → ((at : ℕ) → (Within d (segmentOf (f i)) at → ⊥) → word b at ≡ word a at)
+      → ((j : ℕ) → j < 64 → LiveAt g f i (keyAt a (baseAt d f i) j)
+      → (keyAt b (baseAt d f i) j ≡ keyAt a (baseAt d f i) j) × (valueAt b (baseAt d f i) j ≡ valueAt a (baseAt d f i) j))
+      → ((j : ℕ) → j < 64 → live (localDepth (f i)) (bitsAt g f i) (keyAt a (baseAt d f i) j) ≡ false
+      → live (localDepth (f i)) (bitsAt g f i) (keyAt b (baseAt d f i) j) ≡ false)
+      → BlockChanged m m g d S f i a b
+  slots-unseen b l elsewhere stays unseen =
+      record {
+        length-same = l;
+        word-0-same = elsewhere 0 (in-front 0 (pow-pos (suc d)));
+        entries-same = λ k h. elsewhere (entryAddress g k) (in-front (entryAddress g k) (entry-inside d g k (inv .shape .present) h));
+        others-same = λ s h unlike x u. elsewhere x (λ w. unlike (segments-disjoint d s (segmentOf (f i)) x u w));
+        map-same = λ key s. refl;
+        now-holds = λ key t.
+            holds-same (m key) a base b base key
+            (λ j w q. let small = window-lt key j w in sym (live-before j small (rw q t)) ∙ q)
+            (λ j w q. let e = stays j (window-lt key j w) (rw q t) in (e .0 ∙ q, e .1))
+            (inv .holds i below key t);
+        now-in-window = λ j h t.
+            let e = live-before j h t in
+            rw e (inv .in-window i below j h (rw e at t));
+      }
+    where
+      base : ℕ
+      base = baseAt d f i
+
+      -- No address of word 0 and the directories lies in the segment.
+      in-front : (at : ℕ) → at < 2 ^ suc d → Within d (segmentOf (f i)) at → ⊥
+      in-front at h w = omega (arith, within-inside d S (segmentOf (f i)) at (inv .directory .entries .below i below) w .behind)
+
+      -- A key that is live now was there before.
+      live-before : (j : ℕ) → j < 64 → LiveAt g f i (keyAt b base j) → keyAt b base j ≡ keyAt a base j
+      live-before j h t =
+          ⊎-elim
+          (λ (u : live (localDepth (f i)) (bitsAt g f i) (keyAt a base j) ≡ true). stays j h u .0)
+          (λ (u : live (localDepth (f i)) (bitsAt g f i) (keyAt a base j) ≡ false). absurd (true≢false (sym t ∙ unseen j h u)))
+          (cases (live (localDepth (f i)) (bitsAt g f i) (keyAt a base j)))
 
   -- A live key that the window did not have, stored into a slot that is not live and has the value v.
   pub new-key : (key j v : ℕ) → LiveAt g f i key → List·Memᴰ j (window key) → hit a (baseAt d f i) key ≡ none

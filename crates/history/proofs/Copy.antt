@@ -1,63 +1,41 @@
 -- The copy step of a split, for an index and its block's bits: the new segment holds what the old one holds for the right half.
 -- Assumes nothing.
-use mathlib.Core.Path.{_≡_, sym, ap, _∙_}
+use mathlib.Core.Path.{_≡_, sym, _∙_}
 use mathlib.Core.Bool.{true, false}
 use mathlib.Core.List.{List, [], _∷_, List·Memᴰ}
 use mathlib.Core.Logic.{_⊎_, inl, inr, ⊎-elim}
-use Prim.Native.Nat.{ℕ, zero, suc, _+_, _*_, _^_, _≤_, _<_}
-use native.Mathlib.Nat.{not-suc-le-zero, eq-or-lt-of-le, le-of-suc-le-suc}
+use Prim.Native.Nat.{ℕ, suc, _+_, _*_, _^_, _<_}
 use native.Mathlib.Omega.{arith}
 use lib.ListN.{length, set, length-set}
 use lib.Pow.{pow-pos}
-use Rattle.stores.specs.Lists.{pick, each}
+use Rattle.stores.specs.Lists.{pick}
 use Rattle.stores.specs.Store.{Store, word, store, apply, exec, Every}
 use Rattle.stores.proofs.Tests.{cases}
-use Rattle.stores.proofs.Lists.{each-suc, every-pick}
-use Rattle.stores.proofs.Stores.{apply-append, length-apply, length-exec, word-set-same, word-set-other}
-use Rattle.stores.proofs.Prefixes.{Always, always-whole, exec-elsewhere, apply-elsewhere}
+use Rattle.stores.proofs.Lists.{every-pick}
+use Rattle.stores.proofs.Stores.{length-exec, word-set-same, word-set-other}
+use Rattle.stores.proofs.Prefixes.{Always, always-whole, exec-elsewhere}
 use Rattle.rules.specs.Layout.{entryAddress, entryAt, segmentOf, localDepth, segmentAddress, keyAddress, valueAddress, keyAt, valueAt}
 use Rattle.rules.specs.Keys.{live, window}
 use Rattle.rules.specs.Split.{moves, copySlot, copying}
 use Rattle.rules.proofs.Words.{entry-inside, Within, within-inside, key-inside, value-inside, segments-disjoint}
-use Rattle.rules.proofs.Keys.{live-nonzero, live-whole, live-split, window-lt}
+use Rattle.rules.proofs.Keys.{live-nonzero, live-whole, window-lt}
 use Rattle.runs.specs.Map.{Map}
 use Rattle.history.proofs.Holds.{Holds, holds-same}
 use Rattle.history.proofs.Invariant.{Inv, Recovered, baseAt, SegmentSame, Framed, inv-framed}
 use Rattle.history.proofs.Kept.{Kept}
-use Rattle.rules.proofs.Halving.{copying-within}
+use Rattle.rules.proofs.SlotStores.{InSlot, key-in-slot, value-in-slot, slot-alone}
+use Rattle.rules.proofs.Halving.{moves-live, copying-within}
 use Rattle.rules.proofs.Blocks.{bitsAt}
 
--- The address is of slot k of the segment at `base`.
-record InSlot (base k at : ℕ) : Type 0 where
-  from : base + 2 * k ≤ at
-  to : at < base + 2 * k + 2
-
+-- The stores for slot k of the new segment go to slot k.
 slot-stores : (a : List ℕ) (from to L bits k : ℕ) → Every (λ s. InSlot to k (s .at)) (copySlot a from to L bits k)
 unfolding copySlot
 slot-stores a from to L bits k =
     every-pick (λ s. InSlot to k (s .at)) (moves a from L bits k)
     (store (valueAddress to k) (valueAt a from k) ∷ store (keyAddress to k) (keyAt a from k) ∷ [])
     (store (keyAddress to k) 0 ∷ [])
-    (record { from = omega arith; to = omega arith }, (record { from = omega arith; to = omega arith }, Prim.tt))
-    (record { from = omega arith; to = omega arith }, Prim.tt)
-
--- A word of slot k after all slots' stores is as the stores of slot k leave it.
-slot-read : (a : List ℕ) (from to L bits k at v n : ℕ) (b : List ℕ) → InSlot to k at
-    → ((c : List ℕ) → length c ≡ length b → word (apply (copySlot a from to L bits k) c) at ≡ v)
-    → k < n → word (apply (each (copySlot a from to L bits) n) b) at ≡ v
-slot-read a from to L bits k at v zero b in-slot last h = absurd (not-suc-le-zero h)
-slot-read a from to L bits k at v (suc n) b in-slot last h =
-    let F : ℕ → List Store = copySlot a from to L bits in
-    let front : List ℕ = apply (each F n) b in
-    let parts : apply (each F (suc n)) b ≡ apply (F n) front =
-    ap (λ (ss : List Store). apply ss b) (each-suc F n) ∙ apply-append (each F n) (F n) b in
-    ap (λ (c : List ℕ). word c at) parts
-    ∙ ⊎-elim
-    (λ (e : k ≡ n). rw e at (last front (length-apply (each F n) b)))
-    (λ (l : k < n).
-    apply-elsewhere (InSlot to n) (F n) front at (slot-stores a from to L bits n) (λ q. omega (arith, q .from, in-slot .to))
-    ∙ slot-read a from to L bits k at v n b in-slot last l)
-    (eq-or-lt-of-le (le-of-suc-le-suc h))
+    (value-in-slot to k, (key-in-slot to k, Prim.tt))
+    (key-in-slot to k, Prim.tt)
 
 module _ (a : List ℕ) (from to L bits j : ℕ) (h : j < 64) (b : List ℕ) where
   -- The key word of slot j in the new segment: the key of a record that moves, else 0.
@@ -65,39 +43,22 @@ module _ (a : List ℕ) (from to L bits j : ℕ) (h : j < 64) (b : List ℕ) whe
       → keyAt (apply (copying a from to L bits) b) to j ≡ pick (moves a from L bits j) (keyAt a from j) 0
   unfolding copying copySlot apply
   copied-key inside =
-      slot-read a from to L bits j (keyAddress to j) (pick (moves a from L bits j) (keyAt a from j) 0) 64 b
-      (record { from = omega arith; to = omega arith }) last h
-    where
-      last : (c : List ℕ) → length c ≡ length b
-          → word (apply (copySlot a from to L bits j) c) (keyAddress to j) ≡ pick (moves a from L bits j) (keyAt a from j) 0
-      last c e =
-          ⊎-elim
-          (λ (t : moves a from L bits j ≡ true).
-          rw t
-          (word-set-same (set c (valueAddress to j) (valueAt a from j)) (keyAddress to j) (keyAt a from j)
-          (rw (length-set, e) inside)))
-          (λ (t : moves a from L bits j ≡ false). rw t (word-set-same c (keyAddress to j) 0 (rw e inside)))
-          (cases (moves a from L bits j))
+      slot-alone to (copySlot a from to L bits) (slot-stores a from to L bits) j (keyAddress to j) 64 b (key-in-slot to j) h
+      ∙ ⊎-elim
+      (λ (t : moves a from L bits j ≡ true).
+      rw t (word-set-same (set b (valueAddress to j) (valueAt a from j)) (keyAddress to j) (keyAt a from j) (rw length-set inside)))
+      (λ (t : moves a from L bits j ≡ false). rw t (word-set-same b (keyAddress to j) 0 inside))
+      (cases (moves a from L bits j))
 
   -- The value of a record that moves.
   copied-value : valueAddress to j < length b → moves a from L bits j ≡ true
       → valueAt (apply (copying a from to L bits) b) to j ≡ valueAt a from j
   unfolding copying copySlot apply
   copied-value inside t =
-      slot-read a from to L bits j (valueAddress to j) (valueAt a from j) 64 b
-      (record { from = omega arith; to = omega arith }) last h
-    where
-      last : (c : List ℕ) → length c ≡ length b → word (apply (copySlot a from to L bits j) c) (valueAddress to j) ≡ valueAt a from j
-      last c e =
-          rw t
-          (word-set-other (set c (valueAddress to j) (valueAt a from j)) (keyAddress to j) (valueAddress to j) (keyAt a from j)
-          (λ q. omega arith)
-          ∙ word-set-same c (valueAddress to j) (valueAt a from j) (rw e inside))
-
--- A record moves where its key is live in the right half.
-moves-live : (a : List ℕ) (from L bits j : ℕ) → moves a from L bits j ≡ live (suc L) (2 * bits + 1) (keyAt a from j)
-unfolding moves
-moves-live a from L bits j = sym (live-split L bits 1 (keyAt a from j) (omega arith))
+      slot-alone to (copySlot a from to L bits) (slot-stores a from to L bits) j (valueAddress to j) 64 b (value-in-slot to j) h
+      ∙ rw t
+      (word-set-other (set b (valueAddress to j) (valueAt a from j)) (keyAddress to j) (valueAddress to j) (keyAt a from j) (λ q. omega arith)
+      ∙ word-set-same b (valueAddress to j) (valueAt a from j) inside)
 
 -- The stores of step 3 for index i's block.
 abbrev pub copies : (a : List ℕ) (g d : ℕ) → (ℕ → ℕ) → (i n : ℕ) → List Store

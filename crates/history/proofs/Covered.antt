@@ -1,23 +1,30 @@
--- What holds of every store that the history rule covers: mending can bring it back, and a list has the map's records.
+-- What holds of every store that the history rule covers: mending can bring it back, a list has the map's records, and a done merge frees a
+-- segment.
 -- Assumes nothing.
 use mathlib.Core.Path.{_≡_, sym, _∙_}
 use mathlib.Core.Bool.{true}
-use mathlib.Core.List.{[]}
+use mathlib.Core.List.{List, []}
+use mathlib.Core.Option.{none}
+use mathlib.Core.Logic.{⊎-elim}
 use Prim.Native.Nat.{ℕ}
 use native.Mathlib.Omega.{arith}
-use Rattle.replies.specs.Replies.{done}
-use Rattle.rules.specs.Mend.{mending, mend}
+use Rattle.replies.specs.Replies.{done, changed}
+use Rattle.rules.specs.Merge.{mergeTests, merge}
 use Rattle.rules.specs.Get.{get}
 use Rattle.rules.specs.Step.{effect, step}
-use Rattle.replies.proofs.Outcomes.{changed-complete, tested-none}
+use Rattle.replies.proofs.Outcomes.{Complete, CutShort, changed-cases, refused-not-done, tested-none, tests-passed}
 use Rattle.rules.proofs.Listing.{done-list-leaves}
+use Rattle.rules.proofs.Merge.{merge-passed}
 use Rattle.runs.specs.Map.{mapSays}
 use Rattle.runs.specs.Run.{Point, claimed}
 use Rattle.history.specs.History.{CoveredPoint}
-use Rattle.history.specs.Further.{MendSuffices, ListIsMap}
-use Rattle.history.proofs.Invariant.{shape-depth}
-use Rattle.history.proofs.Recover.{inv-mend-tests}
-use Rattle.history.proofs.Mend.{mending-length}
+use Rattle.history.specs.Further.{MendSuffices, ListIsMap, MergeFrees}
+use Rattle.history.proofs.Invariant.{shape-depth, shape-segments, shape-valid}
+use Rattle.history.proofs.Recover.{entries-recovered}
+use Rattle.rules.proofs.Words.{header-valid}
+use Rattle.rules.proofs.Mending.{mend-is-done}
+use Rattle.history.proofs.Mend.{inv-mendable}
+use Rattle.history.proofs.Merge.{right-free}
 use Rattle.history.proofs.Listing.{records-list-map}
 use Rattle.history.proofs.Calls.{get-is-map}
 use Rattle.history.proofs.Theorem.{covered-good}
@@ -27,12 +34,11 @@ pub lookup-says : (p : Point) → CoveredPoint p → (key : ℕ) → claimed key
 lookup-says p c key k = get-is-map p (covered-good p c) key k
 
 pub mend-suffices : MendSuffices
-unfolding effect step mend
+unfolding effect step
 mend-suffices p c allowance l enough =
     let inv = covered-good p c .kept .inv in
-    rw (inv-mend-tests inv, tested-none)
-    (changed-complete allowance (record { due = mending (p .array); reply = done [] }) (p .array)
-    (omega (arith, mending-length inv, rw (shape-depth (inv .shape)) at enough)) .reply)
+    mend-is-done (inv-mendable inv) (header-valid (shape-valid (inv .shape))) (shape-segments (inv .shape)) allowance
+    (rw (shape-depth (inv .shape)) at enough)
 
 pub list-is-map : ListIsMap
 list-is-map p c calm l answer a′ l′ count performed says =
@@ -40,3 +46,18 @@ list-is-map p c calm l answer a′ l′ count performed says =
     let w = good .whole calm in
     let d = done-list-leaves (p .array) l count (sym (performed .answered .reply) ∙ says) in
     (performed .list ∙ d .left, records-list-map (w .inv) (w .recovered) (good .zero-none), d .count)
+
+-- A done merge has made all its stores, on a store whose entries are all mended: its tests have passed.
+pub merge-frees : MergeFrees
+unfolding effect step merge
+merge-frees p c key allowance l says =
+    let a : List ℕ = p .array in
+    let inv = covered-good p c .kept .inv in
+    ⊎-elim
+    (λ (d : Complete (merge a key) a (changed allowance (merge a key) a)).
+    let t : mergeTests a key ≡ none = tests-passed (mergeTests a key) _ [] (sym (d .reply) ∙ says) in
+    let passed = merge-passed a key t in
+    let same = entries-recovered inv (passed .tests .agree) in
+    rw (d .after, t, tested-none) (right-free inv same key passed))
+    (λ (d : CutShort allowance (merge a key) a (changed allowance (merge a key) a)). absurd (refused-not-done 7 [] (sym (d .reply) ∙ says)))
+    (changed-cases allowance (merge a key) a)

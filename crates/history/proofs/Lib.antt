@@ -8,6 +8,7 @@ pub mod Changes
 pub mod Double
 pub mod Halved
 pub mod Copy
+pub mod Either
 pub mod Update
 pub mod Halve
 pub mod Split
@@ -16,6 +17,9 @@ pub mod Format
 pub mod Listing
 pub mod Plans
 pub mod Put
+pub mod Joined
+pub mod Merging
+pub mod Merge
 pub mod Calls
 pub mod Theorem
 pub mod Covered

@@ -8,7 +8,7 @@ use mathlib.Core.Option.{Option, none}
 use Prim.Native.Nat.{ℕ, _^_, _<_}
 use borrow.Author.Tests.{ne-eqb}
 use Rattle.replies.specs.declared.Refusal.{Refusal}
-use Rattle.rules.specs.Layout.{entryAt, segmentOf, localDepth, segmentAddress}
+use Rattle.rules.specs.Layout.{depth, entryAt, segmentOf, localDepth, segmentAddress}
 use Rattle.rules.specs.Keys.{index, blockStart}
 use Rattle.rules.specs.Scan.{leader, leadingEntry, leadersValid, entriesAgree}
 use Rattle.replies.specs.Replies.{unless}
@@ -19,7 +19,7 @@ use Rattle.rules.specs.Mend.{mendTests}
 use Rattle.rules.proofs.Words.{header-valid}
 use Rattle.rules.proofs.Keys.{index-lt}
 use Rattle.rules.proofs.Blocks.{blocks-leader, blocks-leading, blocks-valid, blocks-agree}
-use Rattle.rules.proofs.Scan.{in-range}
+use Rattle.rules.proofs.Scan.{in-range, agree-at}
 use Rattle.runs.specs.Map.{Map}
 use Rattle.history.proofs.Invariant.{Inv, Recovered, shape-depth, shape-maxDepth, shape-segments, shape-valid}
 
@@ -38,6 +38,11 @@ module _ {m : Map} {g d S : ℕ} {f : ℕ → ℕ} {a : List ℕ} (inv : Inv m g
 
   recovered-agree : Recovered g f a → entriesAgree a g ≡ true
   recovered-agree = blocks-agree a g S f (inv .directory .entries) (inv .leaders-agree)
+
+  -- Where each entry equals its leader, all are f's.
+  pub entries-recovered : entriesAgree a (depth a) ≡ true → Recovered g f a
+  entries-recovered agree i h =
+      agree-at a g i (rw (shape-depth (inv .shape)) at agree) h ∙ inv-leading i h
 
   -- ---- The key's own entry, and the tests
 

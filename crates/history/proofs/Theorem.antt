@@ -7,7 +7,7 @@ use Prim.Native.Nat.{ℕ}
 use borrow.Author.Tests.{not-true}
 use lib.ListN.{length}
 use Rattle.rules.specs.declared.Call.{Call}
-use Rattle.rules.specs.declared.Call.the-variants.{Format, Get, Put, Remove, Mend, List as ListCall}
+use Rattle.rules.specs.declared.Call.the-variants.{Format, Get, Put, Remove, Merge, Mend, List as ListCall}
 use Rattle.rules.specs.Step.{effect, step}
 use Rattle.runs.specs.Map.{empty}
 use Rattle.runs.specs.Run.{Point, start, mayFollow, next, Linked, CallAgrees}
@@ -16,7 +16,7 @@ use Rattle.history.specs.History.{viewOf, Request, index, Formatted, His
 use Rattle.history.specs.Further.{saysDamage, NeverDamage}
 use Rattle.history.proofs.Format.{format-leaves}
 use Rattle.history.proofs.Plans.{Good, CallKept}
-use Rattle.history.proofs.Calls.{get-is-map, get-kept, list-kept, put-called, remove-called, mend-called, format-called}
+use Rattle.history.proofs.Calls.{get-is-map, get-kept, list-kept, put-called, remove-called, merge-called, mend-called, format-called}
 
 -- ---- The start, and one call
 
@@ -42,6 +42,7 @@ call-kept p good l (Format D S allowance) may = format-called p good D S allowan
 call-kept p good l (Get key) may = get-kept p good key
 call-kept p good l (Put key value allowance) may = put-called p good (not-true (p .needsRecovery) may) key value allowance
 call-kept p good l (Remove key allowance) may = remove-called p good (not-true (p .needsRecovery) may) key allowance
+call-kept p good l (Merge key allowance) may = merge-called p good (not-true (p .needsRecovery) may) key allowance
 call-kept p good l (Mend allowance) may = mend-called p good allowance
 call-kept p good l ListCall may = list-kept p good (not-true (p .needsRecovery) may) (length l)
 

@@ -1,14 +1,19 @@
 -- What else is shown of every run of the index.
 -- Assumes nothing.
-use Prim.Native.Nat.{ℕ, _^_, _≤_}
+use Prim.Native.Nat.{ℕ, _^_, _≤_, _<_}
 use mathlib.Core.Path.{_≡_}
 use mathlib.Core.Bool.{Bool, true, false, _||_}
 use mathlib.Core.List.{List, [], _∷_}
 use lib.ListN.{length}
 use Rattle.stores.specs.Written.{atFront}
-use Rattle.rules.specs.declared.Call.the-variants.{Mend, List as ListCall}
+use Rattle.rules.specs.declared.Call.the-variants.{Merge, Mend, List as ListCall}
 use Rattle.replies.specs.declared.Answer.{Answer}
-use Rattle.rules.specs.Layout.{depth}
+use mathlib.Core.Option.{some}
+use Rattle.rules.specs.Layout.{depth, segments, segmentOf}
+use Rattle.rules.specs.Keys.{index as keyIndex}
+use Rattle.rules.specs.Slots.{named, freeSegment}
+use Rattle.rules.specs.Get.{keyEntry}
+use Rattle.rules.specs.Merge.{rightEntry}
 use Rattle.replies.specs.Replies.{Said, done, saidBy, isRefusal}
 use Rattle.rules.specs.Listing.{records, wordsOf}
 use Rattle.rules.specs.Step.{step, Performed}
@@ -40,3 +45,21 @@ ListIsMap =
     → Performed ListCall (p .array) l answer a′ l′
     → saidBy (answer .reply) ≡ done (count ∷ [])
     → (l′ ≡ atFront (wordsOf (records (p .array))) l) × ListsMap (p .map) (records (p .array)) × (count ≡ length (records (p .array)))
+
+-- Segment n is free in the array a: it is below S, no entry names it, and a split takes it, or a smaller one that no entry names.
+pub record FreeIn (n : ℕ) (a : List ℕ) : Type 0 where
+  pub below : n < segments a
+  pub unnamed : named a n ≡ false
+  pub taken : ℕ
+  pub found : freeSegment a ≡ some taken
+  pub not-behind : taken ≤ n
+
+-- The segment of the right half for a merge on the key: document 02's b.
+abbrev pub rightOf : List ℕ → (key : ℕ) → ℕ
+rightOf a key = segmentOf (rightEntry a (keyIndex key (depth a)) (keyEntry a key))
+
+-- Behind a done merge, of any store that the history rule covers, that segment is free.
+abbrev pub MergeFrees : Type 0
+MergeFrees =
+    (p : Point) → CoveredPoint p → (key allowance : ℕ) (l : List ℕ) → (step (p .array) l (Merge key allowance)) .outcome .reply ≡ done []
+    → FreeIn (rightOf (p .array) key) ((step (p .array) l (Merge key allowance)) .outcome .after)

@@ -5,7 +5,7 @@ use mathlib.Core.Path.{_≡_}
 use mathlib.Core.Bool.{true, false}
 use mathlib.Core.List.{List, []}
 use Rattle.rules.specs.declared.Call.{Call}
-use Rattle.rules.specs.declared.Call.the-variants.{Format, Get, Put, Remove, Mend, List as ListCall}
+use Rattle.rules.specs.declared.Call.the-variants.{Format, Get, Put, Remove, Merge, Mend, List as ListCall}
 use Rattle.replies.specs.declared.Answer.{Answer}
 use Rattle.replies.specs.Replies.{Said, done, saidBy}
 use Rattle.rules.specs.Step.{step, outcomeOf, Performed}
@@ -18,6 +18,7 @@ viewOf (Format D S allowance) = formats
 viewOf (Get key) = gets key
 viewOf (Put key value allowance) = puts key value
 viewOf (Remove key allowance) = removes key
+viewOf (Merge key allowance) = keeps
 viewOf (Mend allowance) = mends
 viewOf ListCall = keeps
 

@@ -2,6 +2,7 @@
 pub mod Answers
 pub mod Places
 pub mod Calls
+pub mod Merges
 pub mod Listings
 pub mod Puts
 pub mod Performs

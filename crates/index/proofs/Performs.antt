@@ -14,7 +14,7 @@ use Rattle.rules.specs.Step.{effect, lists, step, outcomeOf, Performed}
 use Rattle.rules.proofs.Listing.{step-apart, list-array-kept}
 
 module _ (a l : List ℕ) (r : Answer) where
-  -- What `format`, `get`, `put`, `remove` and `mend` promise is a performed call, with any list array: they do not look at it, and
+  -- What `format`, `get`, `put`, `remove`, `merge` and `mend` promise is a performed call, with any list array: they do not look at it, and
   -- leave it.
   pub answered-performed : (b : List ℕ) (call : Call) → lists call ≡ false → Answered (outcomeOf a call) r b → Performed call a l r b l
   answered-performed b call q k =

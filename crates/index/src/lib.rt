@@ -1,5 +1,5 @@
-// The calls of document 01: format, get, put, remove, mend, list. Every array, also the empty one, and
-// every argument gets an answer; none has a requirement.
+// The calls of document 01: format, get, put, remove, mend, list; and document 02's merge. Every array,
+// also the empty one, and every argument gets an answer; none has a requirement.
 mod answer;
 mod empty;
 mod listing;
@@ -32,11 +32,13 @@ use slot::find_at;
 use slot::put_record;
 use slot::put_value;
 use stores::store_word;
+use structure::merge::MergeAnswer;
+use structure::merge::merge as merge_halves;
 use structure::split::SplitAnswer;
 use structure::split::split;
 ghost use lib.ListN.{length};
 ghost use Rattle.replies.specs.Answered.{Answered, Wrote};
-ghost use Rattle.rules.specs.declared.Call.the-variants.{Format, Get, Put, Remove, Mend};
+ghost use Rattle.rules.specs.declared.Call.the-variants.{Format, Get, Put, Remove, Merge, Mend};
 ghost use Rattle.rules.specs.Listing.{list as listing};
 ghost use Rattle.rules.specs.Step.{outcomeOf, Performed};
 
@@ -118,6 +120,22 @@ pub fn remove(words: &mut [u64], key: u64, allowance: u32) -> Answer
     after_stores(Reply::Done, allowance, due)
 }
 
+// Merge: the key's block and its buddy become one block, one depth shallower, with the left segment; the
+// right one comes free. No page changes (document 02, wish 6).
+pub fn merge(words: &mut [u64], key: u64, allowance: u32) -> Answer
+    ensures { λ r. ⌜ Answered (outcomeOf (now (words .entry)) (Merge key allowance)) r (now (words .exit)) ⌝ }
+{
+    let place = match place_to_change(words, key) {
+        Placed::At(place) => place,
+        Placed::Refused(refusal) => return without_store(Reply::Refused(refusal)),
+    };
+    match merge_halves(words, place, allowance) {
+        MergeAnswer::Due(due) => after_stores(Reply::Done, allowance, due),
+        MergeAnswer::NoBuddy => without_store(Reply::Refused(Refusal::NoBuddy)),
+        MergeAnswer::BothLive => without_store(Reply::Refused(Refusal::BothLive)),
+    }
+}
+
 // Mend: each entry that differs from its block's leader gets the leader's word, from left to right.
 pub fn mend(words: &mut [u64], allowance: u32) -> Answer
     ensures { λ r. ⌜ Answered (outcomeOf (now (words .entry)) (Mend allowance)) r (now (words .exit)) ⌝ }
@@ -171,6 +189,7 @@ pub fn perform(words: &mut [u64], list: &mut [u64], call: Call) -> Answer
             allowance,
         } => put(words, key, value, allowance),
         Call::Remove { key, allowance } => remove(words, key, allowance),
+        Call::Merge { key, allowance } => merge(words, key, allowance),
         Call::Mend { allowance } => mend(words, allowance),
         Call::List => crate::list(words, list),
     }

@@ -6,7 +6,7 @@ use replies::Answer;
 use replies::Reply;
 use replies::refusal_number;
 ghost use lib.ListN.{length};
-ghost use Rattle.rules.specs.declared.Call.the-variants.{Format, Get, Put, Remove, Mend};
+ghost use Rattle.rules.specs.declared.Call.the-variants.{Format, Get, Put, Remove, Merge, Mend};
 ghost use Rattle.replies.specs.Replies.{saidBy};
 ghost use Rattle.rules.specs.Listing.{list as listing};
 ghost use Rattle.rules.specs.Step.{outcomeOf};
@@ -93,6 +93,14 @@ pub extern "C" fn page_index_remove(words: &mut [u64], key: u64, allowance: u32)
     ensures { λ r. ⌜ Told (outcomeOf (now (words .entry)) (Remove key allowance)) r (now (words .exit)) ⌝ }
 {
     told(index::remove(words, key, allowance))
+}
+
+// Merge.
+#[no_mangle]
+pub extern "C" fn page_index_merge(words: &mut [u64], key: u64, allowance: u32) -> PageIndexReply
+    ensures { λ r. ⌜ Told (outcomeOf (now (words .entry)) (Merge key allowance)) r (now (words .exit)) ⌝ }
+{
+    told(index::merge(words, key, allowance))
 }
 
 // Mend.

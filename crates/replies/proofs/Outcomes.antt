@@ -11,7 +11,7 @@ use borrow.Author.Tests.{leb-true, leb-false}
 use lib.Dec.{leb}
 use lib.ListN.{length}
 use Rattle.stores.specs.Store.{apply, exec}
-use Rattle.stores.specs.Plan.{Plan, Outcome, reply-only}
+use Rattle.stores.specs.Plan.{Plan, Outcome, reply-only, cut}
 use Rattle.stores.proofs.Tests.{cases}
 use Rattle.stores.proofs.Plans.{cut-whole, cut-short}
 use Rattle.replies.specs.declared.Refusal.{Refusal}
@@ -43,6 +43,11 @@ module _ (n : ℕ) (p : Plan Said) (a : List ℕ) where
         made = ap (λ (o : Outcome Said). o .made) e;
         after = ap (λ (o : Outcome Said). o .after) e;
       }
+
+  -- Whole or cut off, the stores allowed are made.
+  pub changed-after : (changed n p a) .after ≡ exec (p .due) n a
+  unfolding changed cut
+  changed-after = refl
 
   pub changed-cut : n < length (p .due) → CutShort n p a (changed n p a)
   unfolding changed

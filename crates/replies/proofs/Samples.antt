@@ -8,7 +8,7 @@ use mathlib.Core.Option.{none, some}
 use lib.Dec.{eqb}
 use Rattle.stores.specs.Store.{store, apply, exec}
 use Rattle.stores.specs.Plan.{Plan, Outcome, cut}
-use Rattle.replies.specs.declared.Refusal.the-variants.{NoStore, NoKey, Broken, Unmended, TooDeep, NoSegment, CutOff, BadShape, TooShort, ShortList, BadYear, BadMonth, BadNumber}
+use Rattle.replies.specs.declared.Refusal.the-variants.{NoStore, NoKey, Broken, Unmended, TooDeep, NoSegment, CutOff, BadShape, TooShort, ShortList, BadYear, BadMonth, BadNumber, NoBuddy, BothLive}
 use Rattle.stores.specs.Lists.{numbersSame}
 use Rattle.replies.specs.Replies.{numberOf, Said, done, absent, refused, isDone, isRefusal, saidSame, unless, tested, changed}
 use Rattle.replies.specs.Writing.{Writing, behindTests}
@@ -16,9 +16,10 @@ use Rattle.replies.specs.Writing.{Writing, behindTests}
 pub numbers : List ℕ
 numbers =
     numberOf NoStore ∷ numberOf NoKey ∷ numberOf Broken ∷ numberOf Unmended ∷ numberOf TooDeep ∷ numberOf NoSegment ∷ numberOf CutOff
-    ∷ numberOf BadShape ∷ numberOf TooShort ∷ numberOf ShortList ∷ numberOf BadYear ∷ numberOf BadMonth ∷ numberOf BadNumber ∷ []
+    ∷ numberOf BadShape ∷ numberOf TooShort ∷ numberOf ShortList ∷ numberOf BadYear ∷ numberOf BadMonth ∷ numberOf BadNumber
+    ∷ numberOf NoBuddy ∷ numberOf BothLive ∷ []
 
-pub numbers-are : numbers ≡ 1 ∷ 2 ∷ 3 ∷ 4 ∷ 5 ∷ 6 ∷ 7 ∷ 8 ∷ 9 ∷ 10 ∷ 11 ∷ 12 ∷ 13 ∷ []
+pub numbers-are : numbers ≡ 1 ∷ 2 ∷ 3 ∷ 4 ∷ 5 ∷ 6 ∷ 7 ∷ 8 ∷ 9 ∷ 10 ∷ 11 ∷ 12 ∷ 13 ∷ 14 ∷ 15 ∷ []
 unfolding numbers
 numbers-are = refl
 

@@ -8,7 +8,7 @@ use lib.Dec.{eqb}
 use Rattle.stores.specs.Lists.{numbersSame}
 use Rattle.stores.specs.Plan.{Plan, Outcome, reply-only, cut}
 use Rattle.replies.specs.declared.Refusal.{Refusal}
-use Rattle.replies.specs.declared.Refusal.the-variants.{NoStore, NoKey, Broken, Unmended, TooDeep, NoSegment, CutOff, BadShape, TooShort, ShortList, BadYear, BadMonth, BadNumber}
+use Rattle.replies.specs.declared.Refusal.the-variants.{NoStore, NoKey, Broken, Unmended, TooDeep, NoSegment, CutOff, BadShape, TooShort, ShortList, BadYear, BadMonth, BadNumber, NoBuddy, BothLive}
 use Rattle.replies.specs.declared.Reply.{Reply}
 use Rattle.replies.specs.declared.Reply.the-variants.{Done, Value, Absent, Refused}
 
@@ -27,6 +27,8 @@ numberOf ShortList = 10
 numberOf BadYear = 11
 numberOf BadMonth = 12
 numberOf BadNumber = 13
+numberOf NoBuddy = 14
+numberOf BothLive = 15
 
 -- What a call says: done, with the values that go with it; absent; or the number of a refusal.
 pub data Said : Type 0 where

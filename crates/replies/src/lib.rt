@@ -18,6 +18,8 @@ pub enum Refusal {
     BadYear,
     BadMonth,
     BadNumber,
+    NoBuddy,
+    BothLive,
 }
 
 // The reply of a call: done; done with a value, which is what a get found or how many records a
@@ -60,5 +62,7 @@ pub fn refusal_number(refusal: Refusal) -> u32
         Refusal::BadYear => 11,
         Refusal::BadMonth => 12,
         Refusal::BadNumber => 13,
+        Refusal::NoBuddy => 14,
+        Refusal::BothLive => 15,
     }
 }

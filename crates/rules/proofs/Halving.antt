@@ -1,6 +1,6 @@
 -- What the copy step and the entry update of a split leave, on any array with a valid word 0 and the key's own entry in range.
 -- Assumes nothing.
-use mathlib.Core.Path.{_≡_, refl, ap, _∙_}
+use mathlib.Core.Path.{_≡_, refl, sym, ap, _∙_}
 use mathlib.Core.Bool.{Bool, not}
 use mathlib.Core.List.{List, [], _∷_, _++_}
 use Prim.Native.Nat.{ℕ, suc, _+_, _*_, _%_, _^_, _≤_, _<_}
@@ -14,16 +14,21 @@ use Rattle.stores.proofs.Tests.{pick-not}
 use Rattle.stores.proofs.Lists.{every-append, every-each, every-map, every-pick}
 use Rattle.stores.proofs.Stores.{apply-append, length-apply}
 use Rattle.stores.proofs.Prefixes.{apply-elsewhere}
-use Rattle.rules.specs.Layout.{depthIn, depth, maxDepth, segments, wordsFor, entryAddress, entryAt, entry, segmentOf, localDepth, segmentAddress, keyAddress, valueAddress}
-use Rattle.rules.specs.Keys.{bit, index, width, blockBits, blockStart}
+use Rattle.rules.specs.Layout.{depthIn, depth, maxDepth, segments, wordsFor, entryAddress, entryAt, entry, segmentOf, localDepth, segmentAddress, keyAddress, valueAddress, keyAt}
+use Rattle.rules.specs.Keys.{bit, index, width, blockBits, blockStart, live}
 use Rattle.rules.specs.Get.{keyEntry}
 use Rattle.rules.specs.Split.{moves, copySlot, copying, updating, halvingOf, halving}
 use Rattle.rules.proofs.Words.{ValidHeader, entry-inside, entry-positive, entry-from, entry-to, Within, Inside, key-within, value-within, within-inside, directories-below}
-use Rattle.rules.proofs.Keys.{bit-lt, index-suc, index-lt, index-shift, blockStart-le, in-block, block-end}
+use Rattle.rules.proofs.Keys.{bit-lt, live-split, index-suc, index-lt, index-shift, blockStart-le, in-block, block-end}
 use Rattle.rules.proofs.Updating.{left-half, BlockEntry, updating-block, updating-made, updating-whole}
 use Rattle.rules.proofs.Doubling.{DirectoryWord, entry-of-key}
 
 -- ---- Copying
+
+-- A record moves where its key is live in the right half.
+pub moves-live : (a : List ℕ) (from L bits j : ℕ) → moves a from L bits j ≡ live (suc L) (2 * bits + 1) (keyAt a from j)
+unfolding moves
+moves-live a from L bits j = sym (live-split L bits 1 (keyAt a from j) (omega arith))
 
 -- The copy step writes only in the new segment n.
 pub copying-within : (a : List ℕ) (from D n L bits : ℕ)

@@ -7,7 +7,7 @@ use mathlib.Core.Bool.{Bool, true, false, not, _&&_, and-false}
 use mathlib.Core.List.{[], _∷_, List·Memᴰ, List·Memᴰ·head, List·Memᴰ·eq-of-singleton}
 use mathlib.Core.Logic.{⊎-elim}
 use Prim.Native.Nat.{ℕ, zero, suc, _+_, _*_, _-_, _/_, _%_, _^_, _≤_, _<_}
-use native.Mathlib.Nat.{add-zero, eq-or-lt-of-le, le-of-suc-le-suc, pow-succ', sub-self, sub-zero, mul-comm, mul-suc, add-mul, mod-lt, div-one, div-add-mod, div-div-eq-div-mul, div-lt-iff-lt-mul, div-eq-of-lt-le, mul-div-le, mul-mod-right, mul-le-mul-left, add-suc, mul-left-comm, mul-assoc}
+use native.Mathlib.Nat.{add-zero, eq-or-lt-of-le, le-of-suc-le-suc, pow-succ', sub-self, sub-zero, mul-comm, mul-suc, add-mul, mod-lt, div-one, div-add-mod, div-div-eq-div-mul, div-lt-iff-lt-mul, div-eq-of-lt-le, mul-div-le, mul-div-cancel-left, mul-mod-right, mul-le-mul-left, add-suc, mul-left-comm, mul-assoc}
 use native.Mathlib.Numerals.{one-add}
 use native.Mathlib.Omega.{arith}
 use borrow.Author.Tests.{eqb-true, eqb-false, not-true, eq-eqb, ne-eqb}
@@ -221,6 +221,11 @@ blockBits-lt g L i h k = div-lt-iff-lt-mul {x = i} {y = 2 ^ L} (width-pos g L) .
 pub blockStart-bits : (g L i : ℕ) → blockStart g L i ≡ width g L * blockBits g L i
 unfolding blockStart
 blockStart-bits g L i = refl
+
+-- The bits at a multiple of the width.
+pub bits-at : (g L q : ℕ) → blockBits g L (width g L * q) ≡ q
+unfolding blockBits
+bits-at g L q = mul-div-cancel-left q (width-pos g L)
 
 pub blockStart-le : (g L i : ℕ) → blockStart g L i ≤ i
 unfolding blockStart blockBits

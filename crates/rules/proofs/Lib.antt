@@ -2,6 +2,7 @@
 pub mod Table
 pub mod States
 pub mod Samples
+pub mod MergeStates
 pub mod Given
 pub mod Words
 pub mod Keys
@@ -13,6 +14,10 @@ pub mod Halving
 pub mod Slots
 pub mod Split
 pub mod Put
+pub mod SlotStores
+pub mod Mending
+pub mod Joining
+pub mod Merge
 pub mod Refusals
 pub mod Said
 pub mod Lookups
@@ -20,5 +25,7 @@ pub mod Bound
 pub mod Full
 pub mod Range
 pub mod Listing
+pub mod Agree
 pub mod Local
 pub mod OneNumber
+pub mod Finished

@@ -16,7 +16,7 @@ use Rattle.replies.specs.Replies.{done, isDone}
 use Rattle.replies.specs.Writing.{behindTests}
 use Rattle.replies.proofs.Writings.{writing-passed, writing-nothing, writing-fits}
 use Rattle.rules.specs.declared.Call.{Call}
-use Rattle.rules.specs.declared.Call.the-variants.{Format, Get, Put, Remove, Mend, List as ListCall}
+use Rattle.rules.specs.declared.Call.the-variants.{Format, Get, Put, Remove, Merge, Mend, List as ListCall}
 use Rattle.rules.specs.Layout.{validHeader, depth, segments}
 use Rattle.rules.specs.Scan.{leadersValid, entriesAgree}
 use Rattle.rules.specs.Put.{directoryTests}
@@ -87,6 +87,7 @@ effect-writes a room (Format D S allowance) = writes-nothing a room (Format D S 
 effect-writes a room (Get key) = writes-nothing a room (Get key) refl
 effect-writes a room (Put key value allowance) = writes-nothing a room (Put key value allowance) refl
 effect-writes a room (Remove key allowance) = writes-nothing a room (Remove key allowance) refl
+effect-writes a room (Merge key allowance) = writes-nothing a room (Merge key allowance) refl
 effect-writes a room (Mend allowance) = writes-nothing a room (Mend allowance) refl
 effect-writes a room ListCall =
     record {
@@ -116,6 +117,7 @@ effect-apart a m n (Format D S allowance) e = refl
 effect-apart a m n (Get key) e = refl
 effect-apart a m n (Put key value allowance) e = refl
 effect-apart a m n (Remove key allowance) e = refl
+effect-apart a m n (Merge key allowance) e = refl
 effect-apart a m n (Mend allowance) e = refl
 effect-apart a m n ListCall e = absurd (true≢false e)
 

@@ -1,214 +1,53 @@
 -- What a call says, stores and lists depends only on the words that D and S take, and on the array's length.
 -- Assumes nothing.
-use mathlib.Core.Path.{_≡_, refl, sym, ap, ap₂, _∙_}
-use mathlib.Core.Bool.{Bool, true, false, not}
+use mathlib.Core.Path.{_≡_, refl, sym, ap, _∙_}
+use mathlib.Core.Bool.{true, false, not, _&&_}
 use mathlib.Core.List.{List, [], _∷_, _++_}
 use mathlib.Core.Option.{Option, none, some}
 use mathlib.Core.Logic.{⊎-elim}
-use Prim.Native.Nat.{ℕ, zero, suc, _+_, _/_, _^_, _≤_, _<_}
+use Prim.Native.Nat.{ℕ, suc, _+_, _/_, _^_, _≤_, _<_}
 use native.Mathlib.Omega.{arith}
-use borrow.Author.Tests.{eqb-true}
+use borrow.Author.Tests.{eqb-true, not-true}
 use lib.Dec.{eqb}
-use lib.ListN.{length, set, take}
-use lib.Pow.{pow-pos}
+use lib.ListN.{length, take}
 use Rattle.stores.specs.Lists.{pick, each}
 use Rattle.stores.specs.Store.{Store, word, store, apply, exec}
-use Rattle.stores.specs.Plan.{Plan, Outcome, cut}
+use Rattle.stores.specs.Plan.{Outcome, cut}
 use Rattle.stores.specs.Written.{atFront}
-use Rattle.stores.proofs.Tests.{cases}
-use Rattle.stores.proofs.Lists.{each-same, first-same, all-same, any-same}
-use Rattle.stores.proofs.Stores.{length-apply, word-set-other, apply-same}
+use Rattle.stores.proofs.Tests.{cases, and-left}
+use Rattle.stores.proofs.Lists.{each-same, first-same, any-same}
+use Rattle.stores.proofs.Stores.{apply-same}
 use Rattle.replies.specs.declared.Refusal.{Refusal}
-use Rattle.replies.specs.declared.Refusal.the-variants.{NoStore, NoKey, Broken, Unmended}
+use Rattle.replies.specs.declared.Refusal.the-variants.{NoStore, NoKey, Broken, Unmended, NoBuddy, BothLive}
 use Rattle.rules.specs.declared.Call.{Call}
-use Rattle.rules.specs.declared.Call.the-variants.{Format, Get, Put, Remove, Mend, List as ListCall}
-use Rattle.rules.specs.Layout.{header, depth, maxDepth, segments, wordsFor, validHeader, entryAddress, entryAt, segmentOf, localDepth, segmentAddress, keyAddress, valueAddress, keyAt, valueAt}
+use Rattle.rules.specs.declared.Call.the-variants.{Format, Get, Put, Remove, Merge, Mend, List as ListCall}
+use Rattle.rules.specs.Layout.{header, depth, maxDepth, segments, wordsFor, validHeader, entryAddress, entryAt, segmentOf, localDepth, segmentAddress, keyAt}
 use Rattle.rules.specs.Keys.{index, blockBits}
-use Rattle.rules.specs.Scan.{inRange, validLeader, nextLeader, leader, leadingEntry, leadersValid, entriesAgree}
-use Rattle.rules.specs.Slots.{hit, Choice, found, into, full, choose, named, freeSegment}
-use Rattle.replies.specs.Replies.{Said, unless, tested, replied, changed}
-use Rattle.replies.specs.Writing.{Writing, nothing, behindTests}
+use Rattle.rules.specs.Scan.{inRange, leader, leadersValid, entriesAgree}
+use Rattle.rules.specs.Slots.{hit, Choice, found, into, full, named, freeSegment}
+use Rattle.replies.specs.Replies.{Said, changed}
+use Rattle.replies.specs.Writing.{nothing}
 use Rattle.rules.specs.Format.{formatTests, format}
 use Rattle.rules.specs.Get.{keyEntry, keySegment, keyTests, entryTests, getTests, valueAtHit, get}
-use Rattle.rules.specs.Split.{doubling, moves, copySlot, copying, halvingOf, halving, doublingFor, splitting}
+use Rattle.rules.specs.Split.{doubling, halvingOf, halving, doublingFor, splitting}
 use Rattle.rules.specs.Put.{directoryTests, putTests, keyChoice, put}
 use Rattle.rules.specs.Remove.{removeTests, clearedAt, remove}
 use Rattle.rules.specs.Mend.{mendTests, mendEntry, mending, mend}
-use Rattle.rules.specs.Listing.{liveRecord, blockRecords, records, listTests, list}
+use Rattle.rules.specs.Listing.{blockRecords, records, listTests, list}
 use Rattle.rules.specs.Step.{Effect, changes, answers, effect, carriedOut, wordsBy, step}
-use Rattle.rules.proofs.Words.{ValidHeader, valid-header, entry-inside, directories-below}
+use Rattle.rules.proofs.Words.{ValidHeader, valid-header}
 use Rattle.rules.proofs.Keys.{index-lt}
-use Rattle.rules.proofs.Slots.{hit-same, choose-same}
-use Rattle.rules.proofs.Scan.{range-segment, leader-le, valid-at-segment}
+use Rattle.rules.proofs.Scan.{range-segment, valid-at-segment}
 use Rattle.rules.proofs.Put.{unless-none, Passed, passed, passed-none, put-refused, put-found, put-into, put-too-deep, put-no-segment, put-again, Cases, put-induction}
-use Rattle.rules.proofs.Range.{hit-slot, Sizes, ownSizes}
+use Rattle.rules.proofs.Range.{Sizes, ownSizes}
 use Rattle.rules.proofs.Halving.{keyUpdates}
 use Rattle.rules.proofs.Split.{Ready, ready, Splittable, AfterSplit, after-split}
-
--- ---- Tests and picks
-
--- Tests are the same where each is the same once those before it have passed.
-unless-same : {t u : Bool} (r : Refusal) {o p : Option Refusal} → t ≡ u → (t ≡ true → o ≡ p) → unless t r o ≡ unless u r p
-unfolding unless
-unless-same {t} {u} r {o} {p} e h =
-    rw (← e)
-    (⊎-elim
-    (λ (k : t ≡ true). rw (k, h k))
-    (λ (k : t ≡ false). rw k)
-    (cases t))
-
--- What stands behind tests is the same where the tests are, and where it is the same once they have passed.
-behind-same : {X : Type 0} (f : Option Refusal → X → X) → ((r : Refusal) (x y : X) → f (some r) x ≡ f (some r) y)
-    → {o p : Option Refusal} {x y : X} → o ≡ p → (o ≡ none → x ≡ y) → f o x ≡ f p y
-behind-same {X} f c {o} {p} {x} {y} e h = rw (← e) (go o refl)
-  where
-    go : (q : Option Refusal) → o ≡ q → f q x ≡ f q y
-    go none k = ap (f none) (h k)
-    go (some r) k = c r x y
-
-tested-same : {o p : Option Refusal} {x y : Plan Said} → o ≡ p → (o ≡ none → x ≡ y) → tested o x ≡ tested p y
-unfolding tested
-tested-same = behind-same tested (λ r x y. refl)
-
-replied-same : {o p : Option Refusal} {x y : Said} → o ≡ p → (o ≡ none → x ≡ y) → replied o x ≡ replied p y
-unfolding replied
-replied-same = behind-same replied (λ r x y. refl)
-
-writing-same : {o p : Option Refusal} {x y : Writing} → o ≡ p → (o ≡ none → x ≡ y) → behindTests o x ≡ behindTests p y
-unfolding behindTests
-writing-same = behind-same behindTests (λ r x y. refl)
-
-pick-same : {A : Type 0} (t : Bool) (x y z : A) → (t ≡ true → x ≡ y) → pick t x z ≡ pick t y z
-pick-same true x y z h = h refl
-pick-same false x y z h = refl
-
--- ---- Arrays that agree
-
--- Two arrays of the same length agree in the words that D and S of the first take.
-pub record Agree (a b : List ℕ) : Type 0 where
-  pub length-same : length a ≡ length b
-  pub words-same : (i : ℕ) → i < wordsFor (maxDepth a) (segments a) → word a i ≡ word b i
-
--- After the same stores they agree again, where the stores keep D and S.
-pub agree-after : (a b : List ℕ) (ss : List Store) → Agree a b
-    → maxDepth (apply ss a) ≡ maxDepth a → segments (apply ss a) ≡ segments a → Agree (apply ss a) (apply ss b)
-agree-after a b ss s d n =
-    record {
-      length-same = length-apply ss a ∙ s .length-same ∙ sym (length-apply ss b);
-      words-same = λ i h. apply-same ss a b i (s .length-same) (s .words-same i (rw (d, n) at h));
-    }
-
--- Two arrays have the same word 0 and the same entries, in every directory of a depth up to D of the first.
-pub record SameFront (a b : List ℕ) : Type 0 where
-  pub words-same : (i : ℕ) → i < 2 ^ suc (maxDepth a) → word a i ≡ word b i
-
-pub front-itself : (a : List ℕ) → SameFront a a
-front-itself a = record { words-same = λ i h. refl }
-
-module _ {a b : List ℕ} (s : SameFront a b) where
-  pub front-word-0 : word a 0 ≡ word b 0
-  front-word-0 = s .words-same 0 (pow-pos (suc (maxDepth a)))
-
-  front-entry : (g : ℕ) → g ≤ maxDepth a → (i : ℕ) → i < 2 ^ g → entryAt a g i ≡ entryAt b g i
-  front-entry g low i h = s .words-same (entryAddress g i) (entry-inside (maxDepth a) g i low h)
-
-  pub front-key-entry : depth a ≤ maxDepth a → (key : ℕ) → keyEntry a key ≡ keyEntry b key
-  unfolding keyEntry
-  front-key-entry low key = front-entry (depth a) low (index key (depth a)) (index-lt key (depth a)) ∙ rw front-word-0
-
-  pub front-key-segment : depth a ≤ maxDepth a → (key : ℕ) → keySegment a key ≡ keySegment b key
-  unfolding keySegment
-  front-key-segment low key = rw (front-key-entry low key, front-word-0)
-
-  -- A store behind the directories leaves them as they are.
-  pub front-store : (i v : ℕ) → 2 ^ suc (maxDepth a) ≤ i → SameFront a (set b i v)
-  front-store i v h =
-      record { words-same = λ j k. s .words-same j k ∙ sym (word-set-other b i j v (λ e. omega arith)) }
-
-agree-front : {a b : List ℕ} → Agree a b → SameFront a b
-agree-front {a} {b} s = record { words-same = λ i h. s .words-same i (omega (arith, directories-below (maxDepth a) (segments a))) }
-
--- A segment below S ends within the words that D and S take.
-segment-ends : (D S n : ℕ) → n < S → segmentAddress D n + 128 ≤ wordsFor D S
-unfolding segmentAddress wordsFor
-segment-ends D S n h = omega arith
-
-module _ {a b : List ℕ} (s : Agree a b) where
-  -- Word 0 agrees, and with it G, D and S.
-  pub word-0-same : word a 0 ≡ word b 0
-  word-0-same = front-word-0 (agree-front s)
-
-  pub header-same : validHeader a ≡ validHeader b
-  unfolding validHeader
-  header-same = rw (word-0-same, s .length-same)
-
-  -- The records of a segment below S agree.
-  module _ (base : ℕ) (fits : base + 128 ≤ wordsFor (maxDepth a) (segments a)) where
-    key-same : (j : ℕ) → j < 64 → keyAt a base j ≡ keyAt b base j
-    key-same j h = s .words-same (keyAddress base j) (omega arith)
-
-    value-same : (j : ℕ) → j < 64 → valueAt a base j ≡ valueAt b base j
-    value-same j h = s .words-same (valueAddress base j) (omega arith)
-
-    hit-local : (key : ℕ) → hit a base key ≡ hit b base key
-    hit-local key = hit-same a b base base key-same key
-
-    choose-local : (L bits key : ℕ) → choose a base L bits key ≡ choose b base L bits key
-    choose-local L bits key = choose-same a b base base key-same key L bits
-
-    value-hit-same : (key : ℕ) → valueAtHit a base (hit a base key) ≡ valueAtHit b base (hit b base key)
-    unfolding valueAtHit
-    value-hit-same key = rw (← hit-local key) (go (hit a base key) refl)
-      where
-        go : (o : Option ℕ) → hit a base key ≡ o → valueAtHit a base o ≡ valueAtHit b base o
-        go none e = refl
-        go (some j) e = rw (value-same j (hit-slot a base key j e))
-
-    copying-same : (to L bits : ℕ) → copying a base to L bits ≡ copying b base to L bits
-    unfolding copying copySlot moves
-    copying-same to L bits =
-        each-same (copySlot a base to L bits) (copySlot b base to L bits) 64
-        (λ j h. rw (key-same j h, value-same j h))
-
-    live-records-same : (L bits : ℕ) → each (liveRecord a base L bits) 64 ≡ each (liveRecord b base L bits) 64
-    unfolding liveRecord
-    live-records-same L bits =
-        each-same (liveRecord a base L bits) (liveRecord b base L bits) 64
-        (λ j h. rw (key-same j h, value-same j h))
-
-  -- A directory of a depth of at most D agrees.
-  module _ (g : ℕ) (low : g ≤ maxDepth a) where
-    entry-same : (i : ℕ) → i < 2 ^ g → entryAt a g i ≡ entryAt b g i
-    entry-same = front-entry (agree-front s) g low
-
-    leader-local : (i : ℕ) → i < 2 ^ g → leader a g i ≡ leader b g i
-    unfolding leader nextLeader
-    leader-local zero h = refl
-    leader-local (suc i) h =
-        let before : leader a g i ≡ leader b g i = leader-local i (omega arith) in
-        let there : entryAt a g (leader b g i) ≡ entryAt b g (leader b g i) =
-        entry-same (leader b g i) (omega (arith, leader-le b g i)) in
-        rw (before, there)
-
-    leading-same : (i : ℕ) → i < 2 ^ g → leadingEntry a g i ≡ leadingEntry b g i
-    leading-same i h =
-        rw (← leader-local i h) (entry-same (leader a g i) (omega (arith, leader-le a g i)))
-
-    leaders-same : (S : ℕ) → leadersValid a g S ≡ leadersValid b g S
-    unfolding leadersValid
-    leaders-same S =
-        all-same (λ i. validLeader g S (leader a g i) (leadingEntry a g i)) (λ i. validLeader g S (leader b g i) (leadingEntry b g i)) (2 ^ g)
-        (λ i h. ap₂ (validLeader g S) (leader-local i h) (leading-same i h))
-
-    entries-same : entriesAgree a g ≡ entriesAgree b g
-    unfolding entriesAgree
-    entries-same =
-        all-same (λ i. eqb (entryAt a g i) (leadingEntry a g i)) (λ i. eqb (entryAt b g i) (leadingEntry b g i)) (2 ^ g)
-        (λ i h. ap₂ eqb (entry-same i h) (leading-same i h))
-
-    mend-entry-same : (i : ℕ) → i < 2 ^ g → mendEntry a g i ≡ mendEntry b g i
-    unfolding mendEntry
-    mend-entry-same i h = rw (entry-same i h, leading-same i h)
+use Rattle.rules.proofs.Agree.{Agree, unless-same, tested-same, replied-same, writing-same, pick-same, agree-after, front-key-entry, front-key-segment, agree-front, segment-ends, word-0-same, header-same, key-same, value-same, hit-local, choose-local, value-hit-same, copying-same, live-records-same, entry-same, leader-local, leaders-same, entries-same, mend-entry-same}
+use Rattle.rules.proofs.Merge.{joined-room, halves, left-below, right-below, merge-passed}
+use Rattle.rules.proofs.Joining.{buddy-inside}
+use Rattle.rules.proofs.Blocks.{Blocks, consistent-blocks}
+use Rattle.rules.specs.Merge.{buddyStart, joinedDepth, joinedBits, buddyEntry, leftEntry, rightEntry, leftSegment, rightSegment, liveLeft, liveRight, bothLive, mergeSlot, mergingSlots, hasBuddy, bothLiveAt, halvesTests, mergeTests, slotsMerged, mergingOf, merge}
+use Rattle.rules.proofs.Doubling.{entry-of-key}
 
 -- ---- What a call reads, where word 0 is valid
 
@@ -233,12 +72,12 @@ module _ {a b : List ℕ} (s : Agree a b) (v : ValidHeader a) where
       ∙ rw (word-0-same s)
 
   -- The tests of the directory, before others.
-  directory-same : {o p : Option Refusal} → (leadersValid a (depth a) (segments a) ≡ true → o ≡ p)
+  directory-same : {o p : Option Refusal} → (leadersValid a (depth a) (segments a) ≡ true → entriesAgree a (depth a) ≡ true → o ≡ p)
       → directoryTests a o ≡ directoryTests b p
   unfolding directoryTests
   directory-same h =
       unless-same Broken (leaders-same s (depth a) (v .present) (segments a) ∙ rw (word-0-same s))
-      (λ k. unless-same Unmended (entries-same s (depth a) (v .present) ∙ rw (word-0-same s)) (λ t. h k))
+      (λ k. unless-same Unmended (entries-same s (depth a) (v .present) ∙ rw (word-0-same s)) (h k))
 
   doubling-same : doubling a ≡ doubling b
   unfolding doubling
@@ -332,7 +171,7 @@ put-tests-same : {a b : List ℕ} → Agree a b → (key : ℕ) → putTests a k
 unfolding putTests keyTests
 put-tests-same {a} {b} s key =
     unless-same NoStore (header-same s)
-    (λ h. unless-same NoKey refl (λ k. directory-same s (valid-header a h) (λ l. refl)))
+    (λ h. unless-same NoKey refl (λ k. directory-same s (valid-header a h) (λ k t. refl)))
 
 pub get-local : {a b : List ℕ} → Agree a b → (key : ℕ) → get a key ≡ get b key
 unfolding get entryTests getTests keyTests
@@ -365,7 +204,7 @@ unfolding list listTests directoryTests
 list-local {a} {b} s room =
     writing-same
     (unless-same NoStore (header-same s)
-    (λ h. directory-same s (valid-header a h) (λ k. rw (records-local s (valid-header a h) k))))
+    (λ h. directory-same s (valid-header a h) (λ k t. rw (records-local s (valid-header a h) k))))
     (λ e.
     let t₁ = unless-none (validHeader a) NoStore _ e in
     let t₂ = unless-none (leadersValid a (depth a) (segments a)) Broken _ (t₁ .1) in
@@ -410,6 +249,106 @@ put-local {a} {b} s key value = put-induction key value (λ a p. (b : List ℕ) 
               );
         }
 
+-- ---- Merge
+
+-- The two halves, of an entry e at index i in a consistent directory.
+module _ {a b : List ℕ} (s : Agree a b) (v : ValidHeader a) (dir : Blocks (depth a) (segments a) (entryAt a (depth a))) (i e : ℕ)
+    (below : i < 2 ^ depth a) (own : e ≡ entryAt a (depth a) i) where
+  buddy-entry-same : eqb (localDepth e) 0 ≡ false → buddyEntry a i e ≡ buddyEntry b i e
+  unfolding buddyEntry
+  buddy-entry-same deep =
+      entry-same s (depth a) (v .present) (buddyStart (depth a) (joinedDepth e) i)
+      (buddy-inside (depth a) (joinedDepth e) i (joined-room a i e dir below own deep) below)
+      ∙ rw (word-0-same s)
+
+  has-buddy-same : hasBuddy a i e ≡ hasBuddy b i e
+  unfolding hasBuddy
+  has-buddy-same =
+      ⊎-elim
+      (λ (t : eqb (localDepth e) 0 ≡ true). rw t)
+      (λ (t : eqb (localDepth e) 0 ≡ false). rw (buddy-entry-same t))
+      (cases (eqb (localDepth e) 0))
+
+  module _ (buddy : hasBuddy a i e ≡ true) where
+    deep-with-buddy : eqb (localDepth e) 0 ≡ false
+    unfolding hasBuddy
+    deep-with-buddy = not-true (eqb (localDepth e) 0) (and-left (not (eqb (localDepth e) 0)) (eqb (localDepth (buddyEntry a i e)) (localDepth e)) buddy)
+
+    left-same : leftEntry a i e ≡ leftEntry b i e
+    unfolding leftEntry
+    left-same = rw (buddy-entry-same deep-with-buddy, word-0-same s)
+
+    right-same : rightEntry a i e ≡ rightEntry b i e
+    unfolding rightEntry
+    right-same = rw (buddy-entry-same deep-with-buddy, word-0-same s)
+
+    left-ends : leftSegment a i e + 128 ≤ wordsFor (maxDepth a) (segments a)
+    left-ends = segment-ends (maxDepth a) (segments a) (segmentOf (leftEntry a i e)) (left-below a i e dir below own buddy)
+
+    right-ends : rightSegment a i e + 128 ≤ wordsFor (maxDepth a) (segments a)
+    right-ends = segment-ends (maxDepth a) (segments a) (segmentOf (rightEntry a i e)) (right-below a i e dir below own buddy)
+
+    both-live-same : bothLiveAt a i e ≡ bothLiveAt b i e
+    unfolding bothLive
+    both-live-same =
+        let M : ℕ = joinedDepth e in
+        let bits : ℕ = joinedBits a i e in
+        any-same
+        (λ j. liveLeft M bits (keyAt a (leftSegment a i e) j) && liveRight M bits (keyAt a (rightSegment a i e) j))
+        (λ j. liveLeft M bits (keyAt b (leftSegment a i e) j) && liveRight M bits (keyAt b (rightSegment a i e) j))
+        64
+        (λ j h. rw (key-same s (leftSegment a i e) left-ends j h, key-same s (rightSegment a i e) right-ends j h))
+        ∙ rw (left-same, right-same, word-0-same s)
+
+    slots-same : slotsMerged a i e ≡ slotsMerged b i e
+    unfolding mergingSlots mergeSlot
+    slots-same =
+        each-same (mergeSlot a (leftSegment a i e) a (rightSegment a i e) (joinedDepth e) (joinedBits a i e))
+        (mergeSlot b (leftSegment a i e) b (rightSegment a i e) (joinedDepth e) (joinedBits a i e)) 64
+        (λ j h.
+        rw (
+          key-same s (leftSegment a i e) left-ends j h,
+          key-same s (rightSegment a i e) right-ends j h,
+          value-same s (rightSegment a i e) right-ends j h,
+        ))
+        ∙ rw (left-same, right-same, word-0-same s)
+
+    merging-same : mergingOf a i e ≡ mergingOf b i e
+    unfolding mergingOf
+    merging-same = rw (slots-same, left-same, word-0-same s)
+
+  halves-tests-same : halvesTests a i e ≡ halvesTests b i e
+  unfolding halvesTests
+  halves-tests-same =
+      unless-same NoBuddy has-buddy-same (λ t. unless-same BothLive (ap not (both-live-same t)) (λ u. refl))
+
+merge-tests-same : {a b : List ℕ} → Agree a b → (key : ℕ) → mergeTests a key ≡ mergeTests b key
+unfolding mergeTests keyTests
+merge-tests-same {a} {b} s key =
+    unless-same NoStore (header-same s)
+    (λ h.
+    let v = valid-header a h in
+    unless-same NoKey refl
+    (λ k.
+    directory-same s v
+    (λ l t.
+    halves-tests-same s v (consistent-blocks a (depth a) (segments a) l t) (index key (depth a)) (keyEntry a key) (index-lt key (depth a))
+    (entry-of-key a key (depth a) refl)
+    ∙ rw (key-entry-same s v key, word-0-same s))))
+
+pub merge-local : {a b : List ℕ} → Agree a b → (key : ℕ) → merge a key ≡ merge b key
+unfolding merge
+merge-local {a} {b} s key =
+    tested-same (merge-tests-same s key)
+    (λ e.
+    let p = merge-passed a key e in
+    let v = p .tests .valid in
+    rw (
+      merging-same s v (p .dir) (index key (depth a)) (keyEntry a key) (index-lt key (depth a)) (p .own) (p .buddy),
+      key-entry-same s v key,
+      word-0-same s,
+    ))
+
 -- ---- Every call
 
 -- What two arrays share for a call to do the same on both: the words that D and S take, and the length; for a format, the
@@ -445,6 +384,7 @@ effect-local a b room (Format D S allowance) l = ap (changes allowance) (format-
 effect-local a b room (Get key) s = ap (λ (said : Said). answers (nothing said)) (get-local s key)
 effect-local a b room (Put key value allowance) s = ap (changes allowance) (put-local s key value)
 effect-local a b room (Remove key allowance) s = ap (changes allowance) (remove-local s key)
+effect-local a b room (Merge key allowance) s = ap (changes allowance) (merge-local s key)
 effect-local a b room (Mend allowance) s = ap (changes allowance) (mend-local s)
 effect-local a b room ListCall s = ap answers (list-local s room)
 

@@ -21,7 +21,7 @@ use Rattle.replies.specs.declared.Answer.{Answer}
 use Rattle.replies.specs.Replies.{Said, done, isDone, changed}
 use Rattle.replies.proofs.Outcomes.{Complete, CutShort, changed-cut, changed-cases}
 use Rattle.rules.specs.declared.Call.{Call}
-use Rattle.rules.specs.declared.Call.the-variants.{Format, Get, Put, Remove, Mend, List as ListCall}
+use Rattle.rules.specs.declared.Call.the-variants.{Format, Get, Put, Remove, Merge, Mend, List as ListCall}
 use Rattle.rules.specs.Layout.{maxDepth, segments, localDepth, keyAddress, valueAddress}
 use Rattle.rules.specs.Slots.{Choice, found, into, hit, choose}
 use Rattle.rules.specs.Get.{keyEntry, keySegment}
@@ -35,7 +35,7 @@ use Rattle.rules.proofs.Slots.{chosen-at-hit, choose-same, key-after-va
 use Rattle.rules.proofs.Halving.{keyBits}
 use Rattle.rules.proofs.Put.{Passed, passed-none, KeyInto, choice-found, choice-into, put-refused, put-found, put-into, put-too-deep, put-no-segment, put-again, renewed, inserted, put-induction}
 use Rattle.rules.proofs.Range.{hit-slot, key-in-range, value-in-range}
-use Rattle.rules.proofs.Local.{SameFront, front-itself, front-word-0, front-key-entry, front-key-segment, front-store}
+use Rattle.rules.proofs.Agree.{SameFront, front-itself, front-word-0, front-key-entry, front-key-segment, front-store}
 
 -- At most the word at an address, or none: at most one word.
 pub at-most-one : (at : Option ℕ) (x y : List ℕ) → DifferAt at x y → AtMostOneWord x y
@@ -56,6 +56,7 @@ more-effect a room (Format D S allowance) = refl
 more-effect a room (Get key) = refl
 more-effect a room (Put key value allowance) = refl
 more-effect a room (Remove key allowance) = refl
+more-effect a room (Merge key allowance) = refl
 more-effect a room (Mend allowance) = refl
 more-effect a room ListCall = refl
 

@@ -1,8 +1,8 @@
 -- The cases of a put as laws, what its passed tests say, and induction over its splits.
 -- Assumes nothing.
-use mathlib.Core.Path.{_≡_, refl, _∙_}
+use mathlib.Core.Path.{_≡_, refl, ap, _∙_}
 use mathlib.Core.Bool.{Bool, true, false, not}
-use mathlib.Core.List.{List, [], _∷_, List·Memᴰ, List·Memᴰ·head, List·Memᴰ·not-nil, List·Memᴰ·append-cases, List·Memᴰ·eq-of-singleton, Memᴰ·append-left, Memᴰ·append-right}
+use mathlib.Core.List.{List, [], _∷_, _++_, List·Memᴰ, List·Memᴰ·head, List·Memᴰ·not-nil, List·Memᴰ·append-cases, List·Memᴰ·eq-of-singleton, Memᴰ·append-left, Memᴰ·append-right}
 use mathlib.Core.Option.{Option, none, some}
 use mathlib.Core.Logic.{⊎-elim}
 use Prim.Native.Nat.{ℕ, zero, suc, _-_, _≤_, _<_}
@@ -10,10 +10,10 @@ use native.Mathlib.Nat.{le-step, not-suc-le-zero, eq-or-lt-of-le, le-of-suc-le-s
 use native.Mathlib.Omega.{arith}
 use borrow.Author.Tests.{eqb-false, ne-eqb, not-true, not-false, leb-true}
 use lib.Dec.{leb, eqb}
-use Rattle.stores.specs.Lists.{each}
+use Rattle.stores.specs.Lists.{each, firstIn}
 use Rattle.stores.specs.Store.{store, apply}
 use Rattle.stores.specs.Plan.{Plan, reply-only, _then_}
-use Rattle.stores.proofs.Lists.{first-some, first-none, some-none}
+use Rattle.stores.proofs.Lists.{each-suc, first-here, first-append, first-append-some, first-some, first-none, some-none}
 use Rattle.replies.specs.declared.Refusal.{Refusal}
 use Rattle.replies.specs.declared.Refusal.the-variants.{NoStore, NoKey, Broken, Unmended, TooDeep, NoSegment}
 use Rattle.rules.specs.Layout.{validHeader, depth, maxDepth, segments, segmentOf, localDepth, keyAddress, valueAddress}
@@ -50,24 +50,32 @@ pub record Passed (a : List ℕ) (key : ℕ) : Type 0 where
   pub local-low : localDepth (keyEntry a key) ≤ depth a
   pub segment-below : segmentOf (keyEntry a key) < segments a
 
-pub passed : (a : List ℕ) (key : ℕ) → putTests a key ≡ none → Passed a key
-unfolding putTests keyTests directoryTests
-passed a key e =
+-- The same tests, with others behind them.
+pub passed-behind : (a : List ℕ) (key : ℕ) (later : Option Refusal) → keyTests a key (directoryTests a later) ≡ none
+    → Passed a key × (later ≡ none)
+unfolding keyTests directoryTests
+passed-behind a key later e =
     let t₁ = unless-none (validHeader a) NoStore _ e in
     let t₂ = unless-none (not (eqb key 0)) NoKey _ (t₁ .1) in
     let t₃ = unless-none (leadersValid a (depth a) (segments a)) Broken _ (t₂ .1) in
-    let t₄ = unless-none (entriesAgree a (depth a)) Unmended none (t₃ .1) in
+    let t₄ = unless-none (entriesAgree a (depth a)) Unmended later (t₃ .1) in
     let range : inRange (depth a) (segments a) (keyEntry a key) ≡ true =
     rw (entry-of-key a key (depth a) refl)
-    (consistent-in-range a (depth a) (segments a) (index key (depth a)) (t₃ .0) (t₄ .0) (index-lt key (depth a))) in
-    record {
-      valid = valid-header a (t₁ .0);
-      nonzero = eqb-false key 0 (not-true (eqb key 0) (t₂ .0));
-      leaders = t₃ .0;
-      agree = t₄ .0;
-      local-low = range-depth (depth a) (segments a) (keyEntry a key) range;
-      segment-below = range-segment (depth a) (segments a) (keyEntry a key) range;
-    }
+    (consistent-in-range a (depth a) (segments a) (index key (depth a)) (t₃ .0) (t₄ .0) (index-lt key (depth a))) in (
+      record {
+        valid = valid-header a (t₁ .0);
+        nonzero = eqb-false key 0 (not-true (eqb key 0) (t₂ .0));
+        leaders = t₃ .0;
+        agree = t₄ .0;
+        local-low = range-depth (depth a) (segments a) (keyEntry a key) range;
+        segment-below = range-segment (depth a) (segments a) (keyEntry a key) range;
+      },
+      t₄ .1,
+    )
+
+pub passed : (a : List ℕ) (key : ℕ) → putTests a key ≡ none → Passed a key
+unfolding putTests
+passed a key e = passed-behind a key none e .0
 
 -- What the passed tests say is enough for them to pass.
 pub passed-none : {a : List ℕ} {key : ℕ} → Passed a key → putTests a key ≡ none
@@ -143,6 +151,30 @@ unfolding freeSegment
 free-none a e s h =
     not-false (named a s)
     (first-none (λ s. not (named a s)) (each (λ s. s ∷ []) (segments a)) e s (lt-range s (segments a) h))
+
+-- The first of the numbers below S that passes a test is not behind any that does.
+first-below : (test : ℕ → Bool) (S n : ℕ) → n < S → test n ≡ true → (m : ℕ) × (firstIn test (each (λ s. s ∷ []) S) ≡ some m) × (m ≤ n)
+first-below test zero n h t = absurd (not-suc-le-zero h)
+first-below test (suc S) n h t =
+    ⊎-elim
+    (λ (e : n ≡ S). rw (each-suc (λ s. s ∷ []) S) (here (firstIn test (each (λ s. s ∷ []) S)) refl e))
+    (λ (l : n < S).
+    let r = first-below test S n l t in
+    (r .0, rw (each-suc (λ s. s ∷ []) S) (first-append-some test (each (λ s. s ∷ []) S) (S ∷ []) (r .0) (r .1)), r .2))
+    (eq-or-lt-of-le (le-of-suc-le-suc h))
+  where
+    here : (o : Option ℕ) → firstIn test (each (λ s. s ∷ []) S) ≡ o → n ≡ S
+        → (m : ℕ) × (firstIn test (each (λ s. s ∷ []) S ++ (S ∷ [])) ≡ some m) × (m ≤ n)
+    here (some m) q e =
+        let low : m < S = range-lt m S (first-some test (each (λ s. s ∷ []) S) m q .0) in
+        (m, first-append-some test (each (λ s. s ∷ []) S) (S ∷ []) m q, omega arith)
+    here none q e =
+        (S, first-append test (each (λ s. s ∷ []) S) (S ∷ []) q ∙ first-here test S [] (rw e at t), omega arith)
+
+-- A segment that no entry names is found, or one before it.
+pub free-found : (a : List ℕ) (n : ℕ) → n < segments a → named a n ≡ false → (m : ℕ) × (freeSegment a ≡ some m) × (m ≤ n)
+unfolding freeSegment
+free-found a n h u = first-below (λ s. not (named a s)) (segments a) n h (ap not u)
 
 -- ---- The cases of a put
 

@@ -21,7 +21,8 @@ use Rattle.stores.proofs.Plans.{after-cut, length-cut}
 use Rattle.replies.specs.declared.Refusal.{Refusal}
 use Rattle.replies.specs.declared.Refusal.the-variants.{NoStore, CutOff, BadShape}
 use Rattle.rules.specs.declared.Call.{Call}
-use Rattle.rules.specs.declared.Call.the-variants.{Format, Get, Put, Remove, Mend, List as ListCall}
+use Rattle.rules.specs.declared.Call.the-variants.{Format, Get, Put, Remove, Merge, Mend, List as ListCall}
+use Rattle.rules.specs.Keys.{index}
 use Rattle.rules.specs.Layout.{header, depth, maxDepth, segments, wordsFor, validShape, validHeader, entryAddress, entryAt, segmentOf, segmentAddress, keyAddress, valueAddress}
 use Rattle.rules.specs.Scan.{leadingEntry}
 use Rattle.rules.specs.Slots.{hit}
@@ -31,12 +32,14 @@ use Rattle.rules.specs.Get.{keyEntry, keySegment}
 use Rattle.rules.specs.Split.{splitting}
 use Rattle.rules.specs.Put.{putTests, put}
 use Rattle.rules.specs.Remove.{removeTests, clearedAt, remove}
+use Rattle.rules.specs.Merge.{mergeTests, mergingOf, merge}
 use Rattle.rules.specs.Mend.{mendTests, mendEntry, mending, mend}
 use Rattle.rules.specs.Step.{Effect, changes, answers, effect, carriedOut, step}
 use Rattle.rules.proofs.Slots.{hit-window}
 use Rattle.rules.proofs.Words.{ValidHeader, valid-header, Inside, entry-inside, key-inside, value-inside, directories-below}
 use Rattle.rules.proofs.Keys.{window-lt}
 use Rattle.rules.proofs.Put.{unless-none, passed, choice-found, choice-into, put-induction}
+use Rattle.rules.proofs.Merge.{merge-passed, merging-in-range}
 use Rattle.rules.proofs.Split.{splitting-in-range, AfterSplit, after-split}
 
 -- A pair of D and S.
@@ -95,7 +98,7 @@ module _ (a : List ℕ) (key j : ℕ) (s : segmentOf (keyEntry a key) < segments
   unfolding keySegment
   value-in-range = value-inside (maxDepth a) (segments a) (segmentOf (keyEntry a key)) j s h
 
--- ---- Put, remove and mend
+-- ---- Put, remove, merge and mend
 
 pub put-range : (a : List ℕ) (key value : ℕ) → Every (Below (maxDepth a) (segments a)) ((put a key value) .due)
 put-range a key value =
@@ -130,6 +133,13 @@ remove-range a key =
     cleared-every (Below (maxDepth a) (segments a)) (keySegment a key) (hit a (keySegment a key) key)
     (λ j k. key-in-range a key j (passed a key e .segment-below) (hit-slot a (keySegment a key) key j k) .below))
 
+pub merge-range : (a : List ℕ) (key : ℕ) → Every (Below (maxDepth a) (segments a)) ((merge a key) .due)
+unfolding merge
+merge-range a key =
+    tested-every (Below (maxDepth a) (segments a)) (mergeTests a key)
+    (record { due = mergingOf a (index key (depth a)) (keyEntry a key); reply = done [] })
+    (λ e. merging-in-range (merge-passed a key e))
+
 pub mend-range : (a : List ℕ) → Every (Below (maxDepth a) (segments a)) ((mend a) .due)
 unfolding mend mendTests mending mendEntry
 mend-range a =
@@ -163,6 +173,7 @@ ownSizes (Format D S allowance) = some (record { D = D; S = S })
 ownSizes (Get key) = none
 ownSizes (Put key value allowance) = none
 ownSizes (Remove key allowance) = none
+ownSizes (Merge key allowance) = none
 ownSizes (Mend allowance) = none
 ownSizes ListCall = none
 
@@ -186,6 +197,7 @@ effect-range a room (Format D S allowance) = format-range a D S
 effect-range a room (Get key) = Prim.tt
 effect-range a room (Put key value allowance) = put-range a key value
 effect-range a room (Remove key allowance) = remove-range a key
+effect-range a room (Merge key allowance) = merge-range a key
 effect-range a room (Mend allowance) = mend-range a
 effect-range a room ListCall = Prim.tt
 

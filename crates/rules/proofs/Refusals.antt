@@ -1,4 +1,4 @@
--- Refusals 1 to 4 and 8 to 10 make no store and change no word, on every array. For put: where its tests pass, they pass again
+-- Refusals 1 to 4, 8 to 10, 14 and 15 make no store and change no word, on every array. For put: where its tests pass, they pass again
 -- after a split, so that 1 to 4 are given before the first store or not at all.
 -- Assumes nothing.
 use mathlib.Core.Path.{_≡_, refl, sym, ap, _∙_}
@@ -25,10 +25,11 @@ use Rattle.rules.specs.Put.{directoryTests, putTests, put}
 use Rattle.replies.specs.Replies.{Said, refused, numberOf, unless, tested, changed}
 use Rattle.replies.specs.declared.Refusal.{Refusal}
 use Rattle.rules.specs.declared.Call.{Call}
-use Rattle.rules.specs.declared.Call.the-variants.{Format, Get, Put, Remove, Mend, List as ListCall}
+use Rattle.rules.specs.declared.Call.the-variants.{Format, Get, Put, Remove, Merge, Mend, List as ListCall}
 use Rattle.rules.specs.Format.{formatTests, format}
 use Rattle.rules.specs.Slots.{hit}
 use Rattle.rules.specs.Remove.{removeTests, clearedAt, remove}
+use Rattle.rules.specs.Merge.{mergeTests, merge}
 use Rattle.rules.specs.Mend.{mendTests, mend}
 use Rattle.rules.specs.Step.{Effect, changes, answers, effect, carriedOut, step}
 use Rattle.replies.proofs.Outcomes.{Complete, CutShort, changed-cases, refused-not-done, refused-inj}
@@ -229,12 +230,13 @@ unchanged-carried (answers w) a n e not-cut empty = record { after = refl; made 
 -- A call that is refused by another refusal than 5, 6 and 7 has no store due.
 pub refusal-empty : (a : List ℕ) (room : ℕ) (c : Call) (n : ℕ) → (n ≤ 4) ⊎ (8 ≤ n) → replyBy (effect a room c) ≡ refused n
     → dueBy (effect a room c) ≡ []
-unfolding effect format remove mend
+unfolding effect format remove merge mend
 refusal-empty a room (Format D S allowance) n which = tested-empty (formatTests a D S) _ n (λ e. refused-not-done n [] (sym e))
 refusal-empty a room (Get key) n which = λ e. refl
 refusal-empty a room (Put key value allowance) n which = put-empty a key value n which
 refusal-empty a room (Remove key allowance) n which =
     tested-empty (removeTests a key) _ n (cleared-no-refusal (keySegment a key) (hit a (keySegment a key) key) n)
+refusal-empty a room (Merge key allowance) n which = tested-empty (mergeTests a key) _ n (λ e. refused-not-done n [] (sym e))
 refusal-empty a room (Mend allowance) n which = tested-empty (mendTests a) _ n (λ e. refused-not-done n [] (sym e))
 refusal-empty a room ListCall n which = λ e. refl
 

@@ -13,19 +13,21 @@ use lib.ListN.{length}
 use Rattle.stores.specs.Plan.{Plan}
 use Rattle.stores.proofs.Tests.{and-left, and-right, or-cases}
 use Rattle.replies.specs.declared.Refusal.{Refusal}
-use Rattle.replies.specs.declared.Refusal.the-variants.{NoStore, NoKey, Broken, Unmended, TooDeep, NoSegment, BadShape, TooShort, ShortList}
+use Rattle.replies.specs.declared.Refusal.the-variants.{NoStore, NoKey, Broken, Unmended, TooDeep, NoSegment, BadShape, TooShort, ShortList, NoBuddy, BothLive}
 use Rattle.replies.specs.declared.Reply.the-variants.{Done, Value, Absent, Refused}
 use Rattle.rules.specs.declared.Call.{Call}
-use Rattle.rules.specs.declared.Call.the-variants.{Format, Get, Put, Remove, Mend, List as ListCall}
+use Rattle.rules.specs.declared.Call.the-variants.{Format, Get, Put, Remove, Merge, Mend, List as ListCall}
 use Rattle.replies.specs.Replies.{Said, refused}
 use Rattle.replies.proofs.Sayable.{GivenBy, Sayable, by, unless-given, tested-sayable, replied-sayable, writing-sayable, changed-sayable, refused-given}
 use Rattle.rules.specs.Layout.{validShape, wordsFor, validHeader, depth, segments}
+use Rattle.rules.specs.Keys.{index}
 use Rattle.rules.specs.Scan.{inRange, leadersValid, entriesAgree}
 use Rattle.rules.specs.Format.{formatTests, format}
 use Rattle.rules.specs.Slots.{Choice, found, into, full, hit, freeSegment}
 use Rattle.rules.specs.Get.{keyEntry, keySegment, keyTests, entryTests, getTests, valueAtHit, get}
 use Rattle.rules.specs.Put.{directoryTests, putTests, keyChoice, placed, intoFree, putUnused, unused, put}
 use Rattle.rules.specs.Remove.{removeTests, clearedAt, remove}
+use Rattle.rules.specs.Merge.{hasBuddy, bothLiveAt, halvesTests, mergeTests, merge}
 use Rattle.rules.specs.Mend.{mendTests, mend}
 use Rattle.rules.specs.Listing.{listTests, list}
 use Rattle.rules.specs.Step.{Effect, changes, answers, effect, carriedOut, step}
@@ -99,11 +101,12 @@ cut-given a room (Format D S allowance) = refl
 cut-given a room (Get key) = Prim.tt
 cut-given a room (Put key value allowance) = refl
 cut-given a room (Remove key allowance) = refl
+cut-given a room (Merge key allowance) = refl
 cut-given a room (Mend allowance) = refl
 cut-given a room ListCall = Prim.tt
 
 effect-sayable : (a : List ℕ) (room : ℕ) (call : Call) → Sayable (gives call) (replyBy (effect a room call))
-unfolding effect format formatTests get getTests entryTests put remove removeTests mend mendTests list listTests gives refusalsOf has
+unfolding effect format formatTests get getTests entryTests put remove removeTests merge mergeTests halvesTests mend mendTests list listTests gives refusalsOf has
 effect-sayable a room (Format D S allowance) =
     let may = gives (Format D S allowance) in
     tested-sayable may _ _
@@ -119,6 +122,15 @@ effect-sayable a room (Remove key allowance) =
     let may = gives (Remove key allowance) in
     tested-sayable may _ _ (key-given may a key _ refl refl (directory-given may a none refl refl Prim.tt))
     (clearedAt-sayable may (keySegment a key) (hit a (keySegment a key) key))
+effect-sayable a room (Merge key allowance) =
+    let may = gives (Merge key allowance) in
+    let i : ℕ = index key (depth a) in
+    tested-sayable may _ _
+    (key-given may a key _ refl refl
+    (directory-given may a _ refl refl
+    (unless-given may (hasBuddy a i (keyEntry a key)) NoBuddy _ refl
+    (unless-given may (not (bothLiveAt a i (keyEntry a key))) BothLive none refl Prim.tt))))
+    (by may Done Prim.tt)
 effect-sayable a room (Mend allowance) =
     let may = gives (Mend allowance) in
     tested-sayable may _ _
@@ -151,6 +163,7 @@ apart (Format D S allowance) = refl
 apart (Get key) = refl
 apart (Put key value allowance) = refl
 apart (Remove key allowance) = refl
+apart (Merge key allowance) = refl
 apart (Mend allowance) = refl
 apart ListCall = refl
 

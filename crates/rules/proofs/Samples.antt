@@ -18,33 +18,33 @@ use Rattle.rules.proofs.States.{F, P, fill, stands, names, page, missin
 -- ---- Damage to an index of D = 2, S = 4
 
 -- Word 0 with these G, D and S; and with present depth G.
-abbrev word₀ : (G D S : ℕ) → Store
+abbrev pub word₀ : (G D S : ℕ) → Store
 word₀ G D S = store 0 (0x5041474600000000 + 0x10000 * S + 0x100 * D + G)
 
-abbrev present : (G : ℕ) → Store
+abbrev pub present : (G : ℕ) → Store
 present G = word₀ G 2 4
 
 -- Entry i of the directory of depth 1 or 2, which start at words 2 and 4, names segment s with local depth L.
-abbrev entry₁ : (i s L : ℕ) → Store
+abbrev pub entry₁ : (i s L : ℕ) → Store
 entry₁ i s L = store (2 + i) (s + 0x100000000 * L)
 
-abbrev entry₂ : (i s L : ℕ) → Store
+abbrev pub entry₂ : (i s L : ℕ) → Store
 entry₂ i s L = store (4 + i) (s + 0x100000000 * L)
 
 -- Four entries of depth 2.
-abbrev four : (s₀ L₀ s₁ L₁ s₂ L₂ s₃ L₃ : ℕ) → List Store
+abbrev pub four : (s₀ L₀ s₁ L₁ s₂ L₂ s₃ L₃ : ℕ) → List Store
 four s₀ L₀ s₁ L₁ s₂ L₂ s₃ L₃ = present 2 ∷ entry₂ 0 s₀ L₀ ∷ entry₂ 1 s₁ L₁ ∷ entry₂ 2 s₂ L₂ ∷ entry₂ 3 s₃ L₃ ∷ []
 
 -- The page of a key in slot j of segment 0, which starts at word 8.
-abbrev slot : (j key : ℕ) → List Store
+abbrev pub slot : (j key : ℕ) → List Store
 slot j key = store (8 + 2 * j) key ∷ store (9 + 2 * j) (10 * key) ∷ []
 
 -- Word 0 with the mark of before document 02's wish 4, and page 7.
-abbrev oldStore : List Store
+abbrev pub oldStore : List Store
 oldStore = store 0 0x5041474500040200 ∷ slot 28 7
 
 -- n slots of segment 0 from 28 on with the pages of the keys `from`, `from` + `by` and so on.
-abbrev slots : (from by n : ℕ) → List Store
+abbrev pub slots : (from by n : ℕ) → List Store
 slots from by n = each (λ i. slot (28 + i) (from + by * i)) n
 
 -- Slots 28 to 43 with sixteen keys whose first directory bit is 0.
@@ -61,7 +61,7 @@ staleLeft n = twoBlocks 23 n
 
 -- Known state e: the split has moved eight pages to segment 1 and left their records in slots 29, 31, .. 43 of segment 0, where
 -- 263 took the first; slots 44 to 47 are empty.
-abbrev moved : List Call
+abbrev pub moved : List Call
 moved = sixteen 4 ++ (P263 10000 ∷ [])
 
 -- Sixteen pages in the window of key 7. The last eight, 16391 and on, have bit 14 and not bit 4: of their folded keys the first
@@ -70,7 +70,7 @@ abbrev sheets : List Call
 sheets = F 4 ∷ fill 7 32 8 ++ fill 16391 32 8
 
 -- A call on an index with damage.
-abbrev damaged : List Store → Call → Said → (made : ℕ) → List Store → List Names → List Lookup → Row
+abbrev pub damaged : List Store → Call → Said → (made : ℕ) → List Store → List Names → List Lookup → Row
 damaged damage call said made words entries lookups =
     state 520 (F 4 ∷ []) damage call said made words entries lookups
 
@@ -112,7 +112,7 @@ mixedOrders =
 -- ---- One number more, or another
 
 -- On an index with damage: a call with an allowance larger by one; and a put with the value 2 in place of 1.
-abbrev more : List Store → Call → (next apart : List ℕ) → Row
+abbrev pub more : List Store → Call → (next apart : List ℕ) → Row
 more damage call next apart = oneMoreAllowed 520 (F 4 ∷ []) damage call next apart
 
 abbrev other : List Store → (key allowance : ℕ) → (apart : List ℕ) → Row

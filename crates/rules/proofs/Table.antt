@@ -23,6 +23,7 @@ use Rattle.rules.specs.Get.{keyEntry, keySegment, keyTests, entryTests, 
 use Rattle.rules.specs.Split.{doubling, moves, copySlot, copying, halfEntry, updating, halvingOf, halving, doublingFor, splitting}
 use Rattle.rules.specs.Put.{directoryTests, putTests, keyChoice, placed, intoFree, putUnused, unused, put}
 use Rattle.rules.specs.Remove.{removeTests, clearedAt, remove}
+use Rattle.rules.specs.Merge.{rightStart, onRight, buddyStart, joinedDepth, buddyEntry, leftEntry, rightEntry, bothLive, mergeRecord, mergeSlot, mergingSlots, joining, hasBuddy, halvesTests, mergeTests, mergingOf, merge}
 use Rattle.rules.specs.Mend.{mendTests, mendEntry, mending, mend}
 use Rattle.rules.specs.Listing.{liveRecord, blockRecords, records, wordsOf, listTests, list}
 use Rattle.rules.specs.Step.{effect, Step, step, outcomeOf}
@@ -45,13 +46,13 @@ pub data Row : Type 0 where
   buckets : (key : ℕ) → List ℕ → Row
   -- the key's index in the directory of this depth
   indexed : (depth key i : ℕ) → Row
-  -- A state. `lent` words, all 0, are lent; the calls `before` are made, then the stores `damage`; then `call`. It is to say `said`
-  -- with `made` stores; and afterwards `words` are to stand at their addresses, `entries` in the present directory from index 0
-  -- on, and `lookups` to answer so.
-  state : (lent : ℕ) (before : List Call) (damage : List Store) (call : Call) (said : Said) (made : ℕ)
+  -- A state. `lent` words, all 0, are lent; the calls `before` are made, then the stores `damage`, then the calls `further`; then
+  -- `call`. It is to say `said` with `made` stores; and afterwards `words` are to stand at their addresses, `entries` in the present
+  -- directory from index 0 on, and `lookups` to answer so.
+  behind : (lent : ℕ) (before : List Call) (damage : List Store) (further : List Call) (call : Call) (said : Said) (made : ℕ)
       (words : List Store) (entries : List Names) (lookups : List Lookup)
       → Row
-  -- A listing, behind the same: a list into the list array `list`. It is to say `said` with no store, and to leave `left` there.
+  -- A listing, behind calls and damage: a list into the list array `list`. It is to say `said` with no store, and to leave `left` there.
   listing : (lent : ℕ) (before : List Call) (damage : List Store) (list : List ℕ) (said : Said) (left : List ℕ) → Row
   -- A call with its allowance and with one larger by one, behind the same. The address of the store that one more allows is to be
   -- `next`, nothing where there is none; the arrays left are to differ at the addresses `apart` and at no other.
@@ -60,11 +61,17 @@ pub data Row : Type 0 where
   -- to differ at the addresses `apart` and at no other: the value word of the put's slot, or nothing.
   otherValue : (lent : ℕ) (before : List Call) (damage : List Store) (key v w allowance : ℕ) (apart : List ℕ) → Row
 
+-- A state with no further calls.
+abbrev pub state : (lent : ℕ) (before : List Call) (damage : List Store) (call : Call) (said : Said) (made : ℕ)
+    (words : List Store) (entries : List Names) (lookups : List Lookup)
+    → Row
+state lent before damage call said made words entries lookups = behind lent before damage [] call said made words entries lookups
+
 -- ---- The test
 
 -- A step that antt computes: an `unfolding` line that names it opens all definitions of the calls.
 unfoldable pub computed : (a l : List ℕ) → Call → Step
-unfolding each firstIn allBelow anyBelow apply exec cut depthIn maxDepthIn segmentsIn markIn header wordsFor validShape validHeader entryAddress segmentOf localDepth entry segmentAddress folded bucket directoryBits bitOf firstBits bit index width blockBits blockStart live windowBucket slotsOf window inRange validLeader nextLeader leader leadersValid entriesAgree hit isEmpty isStale orElse slotForNew chosen choose named freeSegment unless tested replied formatTests formatStores format keyEntry keySegment keyTests entryTests getTests valueAtHit get doubling moves copySlot copying halfEntry updating halvingOf halving doublingFor splitting directoryTests putTests keyChoice placed intoFree putUnused unused put removeTests clearedAt remove mendTests mendEntry mending mend liveRecord blockRecords records wordsOf listTests list behindTests changed effect step
+unfolding each firstIn allBelow anyBelow apply exec cut depthIn maxDepthIn segmentsIn markIn header wordsFor validShape validHeader entryAddress segmentOf localDepth entry segmentAddress folded bucket directoryBits bitOf firstBits bit index width blockBits blockStart live windowBucket slotsOf window inRange validLeader nextLeader leader leadersValid entriesAgree hit isEmpty isStale orElse slotForNew chosen choose named freeSegment unless tested replied formatTests formatStores format keyEntry keySegment keyTests entryTests getTests valueAtHit get doubling moves copySlot copying halfEntry updating halvingOf halving doublingFor splitting directoryTests putTests keyChoice placed intoFree putUnused unused put removeTests clearedAt remove rightStart onRight buddyStart joinedDepth buddyEntry leftEntry rightEntry bothLive mergeRecord mergeSlot mergingSlots joining hasBuddy halvesTests mergeTests mergingOf merge mendTests mendEntry mending mend liveRecord blockRecords records wordsOf listTests list behindTests changed effect step
 computed a l call = step a l call
 
 -- The array after some calls, each made with no list array.
@@ -128,8 +135,8 @@ windowBuckets key = each (λ b. windowBucket key b ∷ []) 4
 passes : Row → Bool
 passes (buckets key bs) = numbersSame (windowBuckets key) bs
 passes (indexed g key i) = eqb (index key g) i
-passes (state lent before damage call said made words entries lookups) =
-    outcomePasses (outcomeOf (prepared lent before damage) call) said made words entries lookups
+passes (behind lent before damage further call said made words entries lookups) =
+    outcomePasses (outcomeOf (afterCalls (prepared lent before damage) further) call) said made words entries lookups
 passes (listing lent before damage list said left) =
     listPasses (step (prepared lent before damage) list ListCall) said left
 passes (oneMoreAllowed lent before damage call next apart) =

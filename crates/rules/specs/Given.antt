@@ -1,11 +1,11 @@
--- Document 01, 'Replies that say no', last column: which call can give which refusal.
+-- Document 01, 'Replies that say no', last column, with what document 02 adds: which call can give which refusal.
 -- Assumes nothing.
 use Prim.Native.Nat.{ℕ}
 use mathlib.Core.Bool.{Bool, false, _||_}
 use mathlib.Core.List.{List, [], _∷_}
 use lib.Dec.{eqb}
 use Rattle.rules.specs.declared.Call.{Call}
-use Rattle.rules.specs.declared.Call.the-variants.{Format, Get, Put, Remove, Mend, List as ListCall}
+use Rattle.rules.specs.declared.Call.the-variants.{Format, Get, Put, Remove, Merge, Mend, List as ListCall}
 
 -- The numbers of the refusals that a call can give.
 unfoldable pub refusalsOf : Call → List ℕ
@@ -13,6 +13,7 @@ refusalsOf (Format D S allowance) = 7 ∷ 8 ∷ 9 ∷ []
 refusalsOf (Get key) = 1 ∷ 2 ∷ 3 ∷ []
 refusalsOf (Put key value allowance) = 1 ∷ 2 ∷ 3 ∷ 4 ∷ 5 ∷ 6 ∷ 7 ∷ []
 refusalsOf (Remove key allowance) = 1 ∷ 2 ∷ 3 ∷ 4 ∷ 7 ∷ []
+refusalsOf (Merge key allowance) = 1 ∷ 2 ∷ 3 ∷ 4 ∷ 7 ∷ 14 ∷ 15 ∷ []
 refusalsOf (Mend allowance) = 1 ∷ 3 ∷ 7 ∷ []
 refusalsOf ListCall = 1 ∷ 3 ∷ 4 ∷ 10 ∷ []
 

@@ -1,4 +1,4 @@
--- Document 01 as definitions, in its order.
+-- Documents 01 and 02 as definitions, in their order.
 pub mod Layout
 pub mod Keys
 pub mod Scan
@@ -8,9 +8,11 @@ pub mod Get
 pub mod Split
 pub mod Put
 pub mod Remove
+pub mod Merge
 pub mod Mend
 pub mod Listing
 pub mod Step
 pub mod SameListing
 pub mod OneNumber
+pub mod Finished
 pub mod Given

@@ -14,7 +14,7 @@ use Rattle.stores.specs.Difference.{SameBut, DifferAt, addressBehind}
 use Rattle.replies.specs.declared.Answer.{Answer}
 use Rattle.replies.specs.Replies.{Said, done, refused, isDone, saidBy}
 use Rattle.rules.specs.declared.Call.{Call}
-use Rattle.rules.specs.declared.Call.the-variants.{Format, Get, Put, Remove, Mend, List as ListCall}
+use Rattle.rules.specs.declared.Call.the-variants.{Format, Get, Put, Remove, Merge, Mend, List as ListCall}
 use Rattle.rules.specs.Layout.{valueAddress}
 use Rattle.rules.specs.Slots.{Choice, found, into, full}
 use Rattle.rules.specs.Get.{keySegment}
@@ -34,6 +34,7 @@ oneMore (Format D S allowance) = Format D S (suc allowance)
 oneMore (Get key) = Get key
 oneMore (Put key value allowance) = Put key value (suc allowance)
 oneMore (Remove key allowance) = Remove key (suc allowance)
+oneMore (Merge key allowance) = Merge key (suc allowance)
 oneMore (Mend allowance) = Mend (suc allowance)
 oneMore ListCall = ListCall
 

@@ -9,7 +9,7 @@ use Rattle.stores.specs.Plan.{Plan, Outcome}
 use Rattle.stores.specs.Written.{atFront}
 use Rattle.replies.specs.declared.Answer.{Answer}
 use Rattle.rules.specs.declared.Call.{Call}
-use Rattle.rules.specs.declared.Call.the-variants.{Format, Get, Put, Remove, Mend, List as ListCall}
+use Rattle.rules.specs.declared.Call.the-variants.{Format, Get, Put, Remove, Merge, Mend, List as ListCall}
 use Rattle.replies.specs.Replies.{Said, changed}
 use Rattle.replies.specs.Writing.{Writing, nothing}
 use Rattle.replies.specs.Answered.{Answered}
@@ -17,6 +17,7 @@ use Rattle.rules.specs.Format.{format}
 use Rattle.rules.specs.Get.{get}
 use Rattle.rules.specs.Put.{put}
 use Rattle.rules.specs.Remove.{remove}
+use Rattle.rules.specs.Merge.{merge}
 use Rattle.rules.specs.Mend.{mend}
 use Rattle.rules.specs.Listing.{list}
 
@@ -35,6 +36,7 @@ effect a room (Format D S allowance) = changes allowance (format a D S)
 effect a room (Get key) = answers (nothing (get a key))
 effect a room (Put key value allowance) = changes allowance (put a key value)
 effect a room (Remove key allowance) = changes allowance (remove a key)
+effect a room (Merge key allowance) = changes allowance (merge a key)
 effect a room (Mend allowance) = changes allowance (mend a)
 effect a room ListCall = answers (list a room)
 
@@ -44,6 +46,7 @@ lists (Format D S allowance) = false
 lists (Get key) = false
 lists (Put key value allowance) = false
 lists (Remove key allowance) = false
+lists (Merge key allowance) = false
 lists (Mend allowance) = false
 lists ListCall = true
 

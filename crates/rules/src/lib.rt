@@ -20,6 +20,10 @@ pub enum Call {
         key: u64,
         allowance: u32,
     },
+    Merge {
+        key: u64,
+        allowance: u32,
+    },
     Mend {
         allowance: u32,
     },

@@ -12,7 +12,7 @@ module _ (a : List ℕ) (j : ℕ) where
   pub key-word : keyAt a 0 j ≡ word a (2 * j)
   key-word = ap (word a) (zero-add (2 * j))
 
-  value-word : valueAt a 0 j ≡ word a (2 * j + 1)
+  pub value-word : valueAt a 0 j ≡ word a (2 * j + 1)
   value-word = ap (word a) (zero-add (2 * j + 1))
 
   -- A slot holds what its two words say.

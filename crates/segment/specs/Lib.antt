@@ -3,3 +3,4 @@ pub mod Slot
 pub mod Bucket
 pub mod Answers
 pub mod Listing
+pub mod Merge

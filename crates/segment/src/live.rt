@@ -1,7 +1,7 @@
-// Which keys are live in the segment of a block, and which of them a split moves.
+// Which keys are live in the segment of a block, in one of its halves, and which of them a split moves.
 use layout::key::Block;
 use layout::key::open_key;
-ghost use Prim.Native.Nat.{ℕ, _≤_};
+ghost use Prim.Native.Nat.{ℕ, suc, _+_, _*_, _≤_, _<_};
 ghost use mathlib.Core.Path.{_≡_};
 ghost use mathlib.Core.List.{List};
 ghost use Rattle.rules.specs.Layout.{keyAt};
@@ -28,12 +28,20 @@ pub(crate) fn is_live(block: Block, key: u64) -> bool
     is_live_by(block, key, opened.bits)
 }
 
-// A split of that segment moves a record with the key: it is live, and the directory bit whose
-// number is the local depth is 1. The key is opened once for both.
+// The key is live in one half of the block, by its next directory bit, whose number is the local depth:
+// `half` is 0 for the left half and 1 for the right one. The key is opened once for all its bits.
+pub(crate) fn is_live_in_half(block: Block, half: u64, key: u64) -> bool
+    requires { ⌜ (block .«local_depth» ≤ 12) × (half < 2) ⌝ }
+    ensures { λ r. ⌜ r ≡ live (suc (block .«local_depth»)) (2 * shared block + half) key ⌝ }
+{
+    let opened = open_key(key);
+    is_live_by(block, key, opened.bits) && (opened.bits >> block.local_depth) % 2 == half
+}
+
+// A split of the block's segment moves a record with the key: it is live in the right half.
 pub(crate) fn moves(block: Block, key: u64) -> bool
     requires { ⌜ block .«local_depth» ≤ 12 ⌝ }
     ensures { λ r. ⌜ ((a : List ℕ) (j : ℕ) → keyAt a 0 j ≡ key → r ≡ moves a 0 (block .«local_depth») (shared block) j) ⌝ }
 {
-    let opened = open_key(key);
-    is_live_by(block, key, opened.bits) && (opened.bits >> block.local_depth) % 2 == 1
+    is_live_in_half(block, 1, key)
 }

@@ -84,6 +84,21 @@ word-set-same a i v h = getD-set-same a i v 0 h
 pub word-set-other : (a : List ℕ) (i j v : ℕ) → (j ≡ i → ⊥) → word (set a i v) j ≡ word a j
 word-set-other a i j v h = getD-set-other a i j v 0 h
 
+-- What holds of a word, and of every value that is stored there, holds of the word afterwards.
+pub word-keeps : (P : ℕ → Type 0) (ss : List Store) (a : List ℕ) (i : ℕ) → i < length a → P (word a i) → Every (λ s. s .at ≡ i → P (s .value)) ss
+    → P (word (apply ss a) i)
+unfolding apply
+word-keeps P [] a i b h k = h
+word-keeps P (s ∷ ss) a i b h k =
+    word-keeps P ss (set a (s .at) (s .value)) i (rw length-set b)
+    (⊎-elim
+    (λ (t : eqb (s .at) i ≡ true).
+    let e : s .at ≡ i = eqb-true (s .at) i t in
+    rw (e, word-set-same a i (s .value) b) (k .0 e))
+    (λ (t : eqb (s .at) i ≡ false). rw (word-set-other a (s .at) i (s .value) (λ e. eqb-false (s .at) i t (sym e))) h)
+    (cases (eqb (s .at) i)))
+    (k .1)
+
 -- A word that no store writes is as it was.
 pub word-elsewhere : (ss : List Store) (a : List ℕ) (i : ℕ) → Every (λ s. s .at ≡ i → ⊥) ss → word (apply ss a) i ≡ word a i
 unfolding apply

@@ -69,7 +69,7 @@ copying-inside a from L bits =
     (store (keyAddress 0 j) 0 ∷ [])
     (omega arith, (omega arith, Prim.tt)) (omega arith, Prim.tt))
 
-shifted-each : (base : ℕ) (f : ℕ → List Store) (n : ℕ) → shifted base (each f n) ≡ each (λ j. shifted base (f j)) n
+pub shifted-each : (base : ℕ) (f : ℕ → List Store) (n : ℕ) → shifted base (each f n) ≡ each (λ j. shifted base (f j)) n
 unfolding each shifted
 shifted-each base f zero = refl
 shifted-each base f (suc n) =

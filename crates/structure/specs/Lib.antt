@@ -1,2 +1,3 @@
--- What a split asks of its caller, and its stores by a key's place.
+-- What a split and a merge ask of their callers, and their stores by a key's place.
 pub mod Splits
+pub mod Merges

@@ -1,4 +1,5 @@
 // The split of a key's segment: document 01, split.
+use crate::read::read_segment;
 use directory::double::double;
 use directory::free::Free;
 use directory::free::free_segment;
@@ -11,13 +12,10 @@ use layout::key::Block;
 use layout::key::directory_index;
 use layout::place::Place;
 use segment::copy::copy_records;
-ghost use mathlib.Core.Path.{_≡_};
 ghost use Prim.Native.Nat.{_+_, _≤_};
-ghost use lib.ListN.{length};
 ghost use Rattle.stores.specs.Executed.{Executed, dueLimit};
 ghost use Rattle.rules.specs.Split.{splitting};
 ghost use Rattle.layout.specs.Places.{KeyPlace};
-ghost use Rattle.segment.specs.Slot.{segmentIn};
 ghost use Rattle.structure.specs.Splits.{halvingAt, Halvable, CanSplit, SplitBy};
 
 // What a split answers: the number of stores due, or what step 1 refuses.
@@ -33,18 +31,6 @@ pub struct Halving {
     pub place: Place,
     pub depth: u32,
     pub new_segment: usize,
-}
-
-// The words of the segment at `base`, as a value: a split reads them while it writes the array.
-fn read_segment(words: &[u64], base: usize) -> [u64; SEGMENT_WORDS]
-    requires { ⌜ base + 128 ≤ length (now words) ⌝ }
-    ensures { λ r. ⌜ r ≡ segmentIn (now (words .entry)) base ⌝ }
-{
-    let mut segment = [0u64; SEGMENT_WORDS];
-    for i in 0..SEGMENT_WORDS {
-        segment[i] = words[base + i];
-    }
-    segment
 }
 
 // Steps 3 and 4: the copy step from the words of the old segment, then the entries of the key's block.

@@ -33,6 +33,12 @@ remove-requires c κs = search needs
 enum-known-call-5 : tie.Need-enum-known-call-5
 enum-known-call-5 c = search needs
 
+merge-requires : tie.Need-merge-requires
+merge-requires c κs = search needs
+
+enum-known-call-6 : tie.Need-enum-known-call-6
+enum-known-call-6 c = search needs
+
 mend-requires : tie.Need-mend-requires
 mend-requires c κs = search needs
 
@@ -70,43 +76,22 @@ same-length-5 : tie.Need-same-length-5
 same-length-5 c = search needs
 
 returns-5 : tie.Need-returns-5
-returns-5 c = performed _ _ _ _ (c .before .before .before .before .before .call5 .given .1) refl (c .before .before .mend .ensures)
+returns-5 c = performed _ _ _ _ (c .before .before .before .before .before .call5 .given .1) refl (c .before .before .merge .ensures)
 
 same-length-6 : tie.Need-same-length-6
 same-length-6 c = search needs
 
+returns-6 : tie.Need-returns-6
+returns-6 c = performed _ _ _ _ (c .before .before .before .before .before .call6 .given .1) refl (c .before .before .mend .ensures)
+
 same-length-7 : tie.Need-same-length-7
 same-length-7 c = search needs
 
-returns-6 : tie.Need-returns-6
-returns-6 c = rw (c .before .before .before .before .before .enum-told .given .1) (wrote-performed _ _ _ _ (c .before .before .list .ensures))
+same-length-8 : tie.Need-same-length-8
+same-length-8 c = search needs
+
+returns-7 : tie.Need-returns-7
+returns-7 c = rw (c .before .before .before .before .before .enum-told .given .1) (wrote-performed _ _ _ _ (c .before .before .list .ensures))
 
 pub perform-spec : {M : Type 1} → statement M
-perform-spec =
-    tie.close
-    (tie.spec
-    enum-known-call
-    format-requires
-    enum-known-call-2
-    get-requires
-    enum-known-call-3
-    put-requires
-    enum-known-call-4
-    remove-requires
-    enum-known-call-5
-    mend-requires
-    enum-told
-    list-requires
-    same-length
-    returns
-    same-length-2
-    returns-2
-    same-length-3
-    returns-3
-    same-length-4
-    returns-4
-    same-length-5
-    returns-5
-    same-length-6
-    same-length-7
-    returns-6)
+perform-spec = tie.close (tie.spec enum-known-call format-requires enum-known-call-2 get-requires enum-known-call-3 put-requires enum-known-call-4 remove-requires enum-known-call-5 merge-requires enum-known-call-6 mend-requires enum-told list-requires same-length returns same-length-2 returns-2 same-length-3 returns-3 same-length-4 returns-4 same-length-5 returns-5 same-length-6 returns-6 same-length-7 same-length-8 returns-7)

@@ -1,42 +1,19 @@
 -- `segment::live::moves` meets its contract.
 -- Assumes nothing.
 use borrow.Author.Needs.{needs}
-use mathlib.Core.Path.{_≡_, sym, _∙_}
-use mathlib.Core.Bool.{true, false}
-use Rattle.rules.specs.Keys.{live}
-use Rattle.rules.specs.Split.{moves}
-use Rattle.rules.proofs.Keys.{bit-shift}
+use mathlib.Core.Path.{sym, _∙_}
+use Rattle.rules.proofs.Halving.{moves-live}
 use Rattle.layout.specs.Blocks.{shared}
 use Rattle.segment.proofs.live.moves.Statement.{statement}
 use Rattle.segment.proofs.live.moves.Tie as tie
 
-open-key-requires : tie.Need-open-key-requires
-open-key-requires c κs = search needs
-
-is-live-by-requires : tie.Need-is-live-by-requires
-is-live-by-requires c κs = (c .before .pre, c .open-key .ensures .1)
-
-cast-result : tie.Need-cast-result
-cast-result c = search needs
-
-shr-result : tie.Need-shr-result
-shr-result c = search needs
+is-live-in-half-requires : tie.Need-is-live-in-half-requires
+is-live-in-half-requires c κs = search needs
 
 returns : tie.Need-returns
-unfolding moves
 returns c =
-    let a = c .before .before .before .before .before .args in
-    let L = a .block .«local_depth» in
-    let lives : live L (shared (a .block)) (a .key) ≡ true = sym (c .before .before .before .is-live-by .ensures) ∙ c .before .before .if1 .taken in
-    λ s j e. rw (e, lives, bit-shift (a .key) L, c .before .before .before .before .open-key .ensures .1)
-
-returns-2 : tie.Need-returns-2
-unfolding moves
-returns-2 c =
-    let a = c .before .before .before .args in
-    let L = a .block .«local_depth» in
-    let stale : live L (shared (a .block)) (a .key) ≡ false = sym (c .before .is-live-by .ensures) ∙ c .if1 .left in
-    λ s j e. rw (e, stale) (c .if1 .left)
+    let a = c .before .args in
+    λ s j e. c .is-live-in-half .ensures ∙ rw (← e) (sym (moves-live s 0 (a .block .«local_depth») (shared (a .block)) j))
 
 pub moves-spec : {M : Type 1} → statement M
-moves-spec = tie.close (tie.spec open-key-requires is-live-by-requires cast-result shr-result returns returns-2)
+moves-spec = tie.close (tie.spec is-live-in-half-requires returns)

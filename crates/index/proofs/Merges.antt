@@ -1,0 +1,75 @@
+-- The outcome of a merge, case by case, from what the code read, stored and answered.
+-- Assumes nothing.
+use mathlib.Core.Path.{_≡_, refl, _∙_}
+use mathlib.Core.List.{List, []}
+use mathlib.Core.Option.{none, some}
+use Prim.Native.Nat.{ℕ}
+use Rattle.replies.specs.declared.Refusal.{Refusal}
+use Rattle.replies.specs.declared.Refusal.the-variants.{NoBuddy, BothLive}
+use Rattle.replies.specs.declared.Answer.{Answer}
+use Rattle.replies.specs.Replies.{done, refused, refuse, tested}
+use Rattle.replies.specs.Answered.{Answered}
+use Rattle.rules.specs.declared.Call.the-variants.{Merge}
+use Rattle.rules.specs.Layout.{depth, segments}
+use Rattle.rules.specs.Keys.{index}
+use Rattle.rules.specs.Get.{keyEntry}
+use Rattle.rules.specs.Put.{putTests}
+use Rattle.rules.specs.Merge.{mergeTests, mergingOf, merge}
+use Rattle.rules.specs.Step.{effect, step, outcomeOf}
+use Rattle.rules.proofs.Keys.{index-lt}
+use Rattle.rules.proofs.Blocks.{consistent-blocks}
+use Rattle.rules.proofs.Doubling.{entry-of-key}
+use Rattle.rules.proofs.Put.{Passed, passed}
+use Rattle.rules.proofs.Merge.{left-below, right-below, no-buddy, both-live, both-pass, tests-stop, tests-past}
+use Rattle.layout.specs.declared.place.Place.{Place}
+use Rattle.layout.specs.Places.{KeyPlace}
+use Rattle.structure.specs.declared.merge.MergeAnswer.{MergeAnswer}
+use Rattle.structure.specs.declared.merge.MergeAnswer.the-variants.{Due, NoBuddy as NoBuddyAnswer, BothLive as BothLiveAnswer}
+use Rattle.structure.specs.Merges.{HalvesBelow, MergedBy}
+use Rattle.index.proofs.Places.{Stands}
+use Rattle.index.proofs.Answers.{answered-stores, answered-refused}
+use Rattle.index.proofs.Calls.{Told, Without}
+
+-- Where the key's entry has a buddy, both name segments below S: the directory is consistent.
+pub halves-below : {p : Place} {a : List ℕ} {key : ℕ} → KeyPlace p a → putTests a key ≡ none → p .key ≡ key → HalvesBelow p a
+halves-below {p} {a} {key} k t e =
+    let tests : Passed a key = passed a key t in
+    let dir = consistent-blocks a (depth a) (segments a) (tests .leaders) (tests .agree) in
+    rw e
+    (λ b. (
+      left-below a (index key (depth a)) (keyEntry a key) dir (index-lt key (depth a)) (entry-of-key a key (depth a) refl) b,
+      right-below a (index key (depth a)) (keyEntry a key) dir (index-lt key (depth a)) (entry-of-key a key (depth a) refl) b,
+    ))
+
+module _ (a : List ℕ) (key allowance : ℕ) (r : Answer) where
+  pub merge-refused : (q : Refusal) → putTests a key ≡ some q → Without r (refuse q) → Answered (outcomeOf a (Merge key allowance)) r a
+  unfolding effect step merge
+  merge-refused q e k = answered-refused allowance (mergeTests a key) q _ a r (tests-stop a key q e) (k .0) (k .1)
+
+  module _ (p : Place) (x : Stands p a key (putTests a key)) where
+    tests : Passed a key
+    tests = passed a key (x .0)
+
+    pub merge-no-buddy : (b : List ℕ) → MergedBy NoBuddyAnswer p allowance a b → Without r (refused 14) → Answered (outcomeOf a (Merge key allowance)) r b
+    unfolding effect step merge
+    merge-no-buddy b m k =
+        rw (m .1)
+        (answered-refused allowance (mergeTests a key) NoBuddy _ a r
+        (tests-past tests ∙ no-buddy a (index key (depth a)) (keyEntry a key) (rw (x .1) at (m .0))) (k .0) (k .1))
+
+    pub merge-both-live : (b : List ℕ) → MergedBy BothLiveAnswer p allowance a b → Without r (refused 15) → Answered (outcomeOf a (Merge key allowance)) r b
+    unfolding effect step merge
+    merge-both-live b m k =
+        rw (m .2)
+        (answered-refused allowance (mergeTests a key) BothLive _ a r
+        (tests-past tests ∙ both-live a (index key (depth a)) (keyEntry a key) (rw (x .1) at (m .0)) (rw (x .1) at (m .1))) (k .0) (k .1))
+
+    pub merge-done : (due : ℕ) (b : List ℕ) → MergedBy (Due due) p allowance a b → Told r (done []) allowance due → Answered (outcomeOf a (Merge key allowance)) r b
+    unfolding effect step merge tested
+    merge-done due b m k =
+        rw (tests-past tests ∙ both-pass a (index key (depth a)) (keyEntry a key) (rw (x .1) at (m .buddy)) (rw (x .1) at (m .apart)))
+        (answered-stores allowance (record { due = mergingOf a (index key (depth a)) (keyEntry a key); reply = done [] }) a r due b (rw (x .1) at (m .made)) k)
+
+-- What the merge of the halves has answered.
+pub answer-is : (x y : MergeAnswer) (p : Place) (allowance : ℕ) (a b : List ℕ) → MergedBy x p allowance a b → x ≡ y → MergedBy y p allowance a b
+answer-is x y p allowance a b m q = rw q at m
