@@ -1,4 +1,7 @@
-/* Formats an index of 264 words, puts three pages, gets two and lists them all. */
+/*
+ * Formats an index of 264 words, puts three pages, gets two and lists them all. Then seventeen pages for
+ * sixteen slots take a second segment, and a merge gives it back.
+ */
 #include "page_index.h"
 
 #include <inttypes.h>
@@ -32,5 +35,12 @@ int main(void)
     report("get 8", page_index_get(words, WORDS, 8));
     report("mend", page_index_mend(words, WORDS, ALLOWANCE));
     report("list into no words", page_index_list(words, WORDS, list, 0));
+    for (uint64_t i = 0; i < 16; i++)
+        page_index_put(words, WORDS, 1 + 16 * i, i, ALLOWANCE);
+    report("put 257, with a split", page_index_put(words, WORDS, 257, 16, ALLOWANCE));
+    report("merge 1, 257 in the way", page_index_merge(words, WORDS, 1, ALLOWANCE));
+    report("remove 257", page_index_remove(words, WORDS, 257, ALLOWANCE));
+    report("merge 1", page_index_merge(words, WORDS, 1, ALLOWANCE));
+    report("merge 1, one block left", page_index_merge(words, WORDS, 1, ALLOWANCE));
     return 0;
 }

@@ -18,7 +18,8 @@
  * during a call, the array is as if the call had been given an allowance of just the stores that were
  * made. After a power cut call page_index_mend until it answers PAGE_INDEX_DONE; then every page that
  * was put and acknowledged is found, and the call that was cut off has either happened in full or not
- * at all. A format that was cut off is begun anew. The memory must take the stores in program order.
+ * at all: the put or the remove of its page, or the merge of its two blocks, which changes no page. A
+ * format that was cut off is begun anew. The memory must take the stores in program order.
  *
  * Two arrays compared. Of one array and one call, an allowance larger by one changes at most one word of
  * what is left: the word of the one store more. Two puts that differ in the value alone have the same
@@ -51,7 +52,7 @@ enum page_index_code {
                                   too short for it */
     PAGE_INDEX_NO_KEY = 2,     /* the key is 0 */
     PAGE_INDEX_BROKEN = 3,     /* the directory is damaged */
-    PAGE_INDEX_UNMENDED = 4,   /* a split was cut off: mend first */
+    PAGE_INDEX_UNMENDED = 4,   /* a split or a merge was cut off: mend first */
     PAGE_INDEX_TOO_DEEP = 5,   /* the key's slots are full, and its segment has the largest depth */
     PAGE_INDEX_NO_SEGMENT = 6, /* the key's slots are full, and no segment is free */
     PAGE_INDEX_CUT_OFF = 7,    /* more stores were due than allowed */
@@ -62,11 +63,14 @@ enum page_index_code {
     PAGE_INDEX_BAD_YEAR = 11,   /* given by the board alone: the year is not 1 to 9999 */
     PAGE_INDEX_BAD_MONTH = 12,  /* given by the board alone: the month is not 1 to 12 */
     PAGE_INDEX_BAD_NUMBER = 13, /* given by the board alone: the job number is not 0 to 4095 */
+    PAGE_INDEX_NO_BUDDY = 14,   /* merge: one block fills the directory, or the other half of the block
+                                   one depth shallower is split further */
+    PAGE_INDEX_BOTH_LIVE = 15,  /* merge: some slot has a page in both segments */
     PAGE_INDEX_ABSENT = 255    /* get and remove: the key is not there */
 };
 
 /*
- * An answer. `stores` is the number of stores made in the array: 0 after the codes 1 to 4, 8 to 13 and
+ * An answer. `stores` is the number of stores made in the array: 0 after the codes 1 to 4, 8 to 15 and
  * 255, and after every get, list, read and print. `value` is what a get or a read found, how many records
  * a list or how many bytes a print wrote; else 0. (Read and print are of the board.)
  */
@@ -92,8 +96,9 @@ struct page_index_reply page_index_get(const uint64_t *words, size_t len, uint64
 /*
  * Gives the key this value, whether it had one or not. Usually 1 or 2 stores; where segments are
  * split, up to 9,764. After the codes 5 and 6 the stores of splits already made stay, and no page
- * has changed. A split leaves the records that it copies where they were; a new key takes an empty
- * slot, and one of these only where none of its sixteen slots is empty. Codes: 0, 1 to 7.
+ * has changed. A split leaves the records that it copies where they were, and a merge that was cut off
+ * may leave its copies; a new key takes an empty slot, and one with such a record only where none of its
+ * sixteen slots is empty. Codes: 0, 1 to 7.
  */
 struct page_index_reply page_index_put(uint64_t *words, size_t len, uint64_t key, uint64_t value,
                                        uint32_t allowance);
@@ -102,10 +107,23 @@ struct page_index_reply page_index_put(uint64_t *words, size_t len, uint64_t key
 struct page_index_reply page_index_remove(uint64_t *words, size_t len, uint64_t key, uint32_t allowance);
 
 /*
- * Takes back what a split that was cut off has left in the directory. With nothing to do it makes no
- * store, so it may be called at every start. Codes: 0, 1, 3, 7.
+ * Takes back what a split that was cut off has left in the directory, and finishes a merge that was cut
+ * off with its first entry stored; a merge that was cut off before that has left the directory as it was.
+ * With nothing to do it makes no store, so it may be called at every start. Codes: 0, 1, 3, 7.
  */
 struct page_index_reply page_index_mend(uint64_t *words, size_t len, uint32_t allowance);
+
+/*
+ * Makes one block of two that hold little: the key's block and its buddy, the other half of the block one
+ * depth shallower. The pages of both are in the left segment then, and later splits can take the right
+ * one. The key stands for its block: any key but 0 that leads there, stored or not. No page changes,
+ * whether the merge is whole or cut off. Up to 4,224 stores; none where it is refused with 14 or 15.
+ *
+ * One call joins one pair. The new block may have a buddy as well: call again, for this key and for
+ * others, until all answer 14 or 15. The keys 16 * i + 1, i from 0 to 2^depth - 1, lead to all entries.
+ * Codes: 0, 1 to 4, 7, 14, 15.
+ */
+struct page_index_reply page_index_merge(uint64_t *words, size_t len, uint64_t key, uint32_t allowance);
 
 /*
  * Writes every record to the list array, each as key, then value; words behind them stay. Records come

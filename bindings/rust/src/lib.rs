@@ -4,6 +4,7 @@
 //! Every array and every argument gets an answer; no call touches a word outside the array, allocates
 //! or keeps state. A call makes its stores one word at a time in a fixed order, so that a power cut
 //! leaves the array as an allowance of so many stores would; after one, [`mend`] until it is done.
+//! [`merge`] joins blocks that hold little, so that later splits can take a segment again.
 //! [`board`] keeps the pages of jobs, by year, month and number, in an array of its own.
 //!
 //! Of one array and one call, an allowance larger by one changes at most one word of what is left: the word
@@ -18,7 +19,7 @@
 //! formatted, and every record put again. [`format`] empties a store: what was not listed is lost.
 //!
 //! ```
-//! use page_index::{format, get, list, mend, put, remove, Refusal};
+//! use page_index::{format, get, list, mend, merge, put, remove, Refusal};
 //!
 //! const ALL: u32 = u32::MAX;
 //! let mut words = [0u64; 264];
@@ -37,6 +38,16 @@
 //! assert_eq!(records, [7, 70]);
 //! assert_eq!(remove(&mut words, 7, ALL), Ok(Some(1)));
 //! assert_eq!(remove(&mut words, 7, ALL), Ok(None));
+//!
+//! // A seventeenth page for sixteen slots takes a second segment. A merge gives it back.
+//! for i in 0..17 {
+//!     put(&mut words, 7 + 16 * i, i, ALL).unwrap();
+//! }
+//! assert_eq!(merge(&mut words, 7, ALL).unwrap_err().refusal, Refusal::BothLive);
+//! assert_eq!(remove(&mut words, 263, ALL), Ok(Some(1)));
+//! assert_eq!(merge(&mut words, 7, ALL), Ok(18));
+//! assert_eq!(merge(&mut words, 7, ALL).unwrap_err().refusal, Refusal::NoBuddy);
+//! assert_eq!(get(&words, 247), Ok(Some(15)));
 //! ```
 #![warn(missing_docs)]
 
@@ -45,7 +56,7 @@ pub mod board;
 use std::error::Error;
 use std::fmt;
 
-/// The replies that say no, with their numbers. The last three are given by the board alone.
+/// The replies that say no, with their numbers. Bad year, month and number are given by the board alone.
 #[derive(Clone, Copy, Debug, PartialEq, Eq, Hash)]
 #[repr(u32)]
 pub enum Refusal {
@@ -55,7 +66,7 @@ pub enum Refusal {
     NoKey = 2,
     /// The directory is damaged.
     Broken = 3,
-    /// A split was cut off: mend first.
+    /// A split or a merge was cut off: mend first.
     Unmended = 4,
     /// The key's slots are full, and its segment has the largest depth.
     TooDeep = 5,
@@ -76,6 +87,10 @@ pub enum Refusal {
     BadMonth = 12,
     /// The number of the job is not 0 to 4095.
     BadNumber = 13,
+    /// One block fills the directory, or the other half of the block one depth shallower is split further.
+    NoBuddy = 14,
+    /// Some slot has a page in both segments.
+    BothLive = 15,
 }
 
 /// A refusal, and the number of stores that the call made before it.
@@ -112,6 +127,7 @@ extern "C" {
     fn page_index_put(words: *mut u64, len: usize, key: u64, value: u64, allowance: u32) -> Reply;
     fn page_index_remove(words: *mut u64, len: usize, key: u64, allowance: u32) -> Reply;
     fn page_index_mend(words: *mut u64, len: usize, allowance: u32) -> Reply;
+    fn page_index_merge(words: *mut u64, len: usize, key: u64, allowance: u32) -> Reply;
     fn page_index_list(words: *const u64, len: usize, list: *mut u64, list_len: usize) -> Reply;
 }
 
@@ -130,6 +146,8 @@ fn refusal(code: u32) -> Refusal {
         11 => Refusal::BadYear,
         12 => Refusal::BadMonth,
         13 => Refusal::BadNumber,
+        14 => Refusal::NoBuddy,
+        15 => Refusal::BothLive,
         _ => unreachable!("the index answers no code {code}"),
     }
 }
@@ -163,7 +181,8 @@ pub fn get(words: &[u64], key: u64) -> Result<Option<u64>, Refused> {
 }
 
 /// Gives the key this value, and answers the number of stores. A new key takes an empty slot; only where
-/// none of its sixteen slots is empty, one with a record that a split has copied to another segment.
+/// none of its sixteen slots is empty, one whose record belongs to another segment: a split has copied it
+/// there, or a merge that was cut off has copied it from there.
 pub fn put(words: &mut [u64], key: u64, value: u64, allowance: u32) -> Result<u32, Refused> {
     // SAFETY: as in `format`.
     stores(unsafe { page_index_put(words.as_mut_ptr(), words.len(), key, value, allowance) })
@@ -176,11 +195,27 @@ pub fn remove(words: &mut [u64], key: u64, allowance: u32) -> Result<Option<u32>
     answered(reply).map(|done| done.map(|reply| reply.stores))
 }
 
-/// Takes back what a split that was cut off has left in the directory, and answers the number of
-/// stores: 0 where there was nothing to do.
+/// Takes back what a split that was cut off has left in the directory, finishes a merge that was cut off
+/// with its first entry stored, and answers the number of stores: 0 where there was nothing to do. A merge
+/// that was cut off before that has left the directory as it was.
 pub fn mend(words: &mut [u64], allowance: u32) -> Result<u32, Refused> {
     // SAFETY: as in `format`.
     stores(unsafe { page_index_mend(words.as_mut_ptr(), words.len(), allowance) })
+}
+
+/// Makes one block of the key's block and its buddy, the other half of the block one depth shallower, and
+/// answers the number of stores, at most 4,224. The pages of both are in the left segment then, and later
+/// splits can take the right one. The key, any but 0, stands for its block and need not be stored. No page
+/// changes, whether the merge is whole or cut off.
+///
+/// Refused with [`Refusal::NoBuddy`] where the block has no buddy of its own depth, and then with
+/// [`Refusal::BothLive`] where some slot has a page in both segments, neither with a store. One call joins
+/// one pair: after a merge the new block may have a buddy too, so it is called again, for this key and for
+/// others, until these two are all that it answers. The keys `16 * i + 1` with `i` in `0..1 << depth`, where
+/// `depth` is the largest directory depth, lead to all entries.
+pub fn merge(words: &mut [u64], key: u64, allowance: u32) -> Result<u32, Refused> {
+    // SAFETY: as in `format`.
+    stores(unsafe { page_index_merge(words.as_mut_ptr(), words.len(), key, allowance) })
 }
 
 /// Writes every record to the list array, each as key, then value, and answers how many there are. Words
