@@ -1,9 +1,9 @@
 // Power cuts for real. A child process makes calls of the index and of the month board on an index in a
-// memory-mapped file and writes each call to a pipe before it begins and after it was answered. The
-// parent kills it at a random moment, maps the file again, mends, and checks every key and the lines of
-// a year against the acknowledged calls; the call in flight may have happened or not. Built with
-// -DFAULT=NAME it runs the twin with that fault in the place of the library, and must find pages lost
-// or invented, or an index that cannot be mended.
+// memory-mapped file and notes each call before it begins and after it was answered. The parent kills it at
+// a random moment, maps the file again, mends, and checks every key and the lines of a year against the
+// answered calls; the call in flight may have happened or not. After a merge that was cut, the directory
+// must be that of the whole merge, or the old one. Built with -DFAULT=NAME it runs the twin with that fault
+// in the place of the library, and must find pages lost or invented, or an index that cannot be mended.
 //
 //     cuts FILE SEED
 #include "../../bindings/c/month_board.h"
@@ -17,11 +17,13 @@
 #include <unistd.h>
 
 #include <algorithm>
+#include <atomic>
 #include <cstdio>
 #include <cstdlib>
 #include <cstring>
 #include <ctime>
 #include <map>
+#include <new>
 #include <random>
 #include <string>
 #include <vector>
@@ -34,7 +36,8 @@ using Words = std::vector<word>;
 constexpr word depth = 12, segments = 64;
 constexpr std::size_t size = (2u << depth) + 128 * segments;
 constexpr std::uint32_t all = 0xffffffff;
-constexpr int wanted_kills = 1000, wanted_inside = 100, wanted_by_board = 50, wanted_mends = 30, most_kills = 20000;
+constexpr int wanted_kills = 3000, wanted_inside = 200, wanted_by_board = 100, wanted_mends = 50, most_kills = 20000;
+constexpr int wanted_finished = 50, wanted_undone = 50;
 
 void fail(const char *what) {
     std::perror(what);
@@ -56,15 +59,15 @@ void stay_on(int which) {
     }
 }
 
-// One call of the child, and whether it is announced or answered.
-struct Message {
-    word kind, key, value, answered;
+// One call of the child.
+struct Call {
+    word kind, key, value;
 };
 
-// A put and a remove of the index, the same of a job by the board, and a print of the job's year.
-constexpr word put = 1, take = 2, set_job = 3, take_job = 4, print = 5;
+// A put, a remove and a merge of the index, a put and a remove of a job by the board, and a print of its year.
+constexpr word put = 1, take = 2, merge = 3, set_job = 4, take_job = 5, print = 6;
 
-bool by_board(const Message &m) { return m.kind >= set_job; }
+bool by_board(const Call &c) { return c.kind >= set_job; }
 
 bool is_job(word key) { return twin::refusal_of(twin::job_of(key)) == twin::done; }
 
@@ -73,38 +76,42 @@ unsigned char lines[1 << 16];
 
 // The call by the twin.
 template <class Log, twin::Fault fault>
-void make_by_twin(word *words, const Message &m, Log log) {
+void make_by_twin(word *words, const Call &c, Log log) {
     twin::Index<Log, fault> index(words, size, log);
     twin::Board<Log, fault> board(words, size, log);
-    if (m.kind == put) index.put(m.key, m.value, all);
-    if (m.kind == take) index.remove(m.key, all);
-    if (m.kind == set_job) board.set(twin::job_of(m.key), m.value, all);
-    if (m.kind == take_job) board.remove(twin::job_of(m.key), all);
-    if (m.kind == print) board.print(twin::job_of(m.key).year, lines, sizeof lines);
+    if (c.kind == put) index.put(c.key, c.value, all);
+    if (c.kind == take) index.remove(c.key, all);
+    if (c.kind == merge) index.merge(c.key, all);
+    if (c.kind == set_job) board.set(twin::job_of(c.key), c.value, all);
+    if (c.kind == take_job) board.remove(twin::job_of(c.key), all);
+    if (c.kind == print) board.print(twin::job_of(c.key).year, lines, sizeof lines);
 }
 
 #ifdef FAULT
-void make(word *words, const Message &m) { make_by_twin<twin::NoLog, twin::Fault::FAULT>(words, m, {}); }
+void make(word *words, const Call &c) { make_by_twin<twin::NoLog, twin::Fault::FAULT>(words, c, {}); }
 #else
-void make(word *words, const Message &m) {
-    twin::Job job = twin::job_of(m.key);
-    if (m.kind == put) page_index_put(words, size, m.key, m.value, all);
-    if (m.kind == take) page_index_remove(words, size, m.key, all);
-    if (m.kind == set_job) month_board_set(words, size, job.year, job.month, job.number, m.value, all);
-    if (m.kind == take_job) month_board_remove(words, size, job.year, job.month, job.number, all);
-    if (m.kind == print) month_board_print(words, size, job.year, lines, sizeof lines);
+void make(word *words, const Call &c) {
+    twin::Job job = twin::job_of(c.key);
+    if (c.kind == put) page_index_put(words, size, c.key, c.value, all);
+    if (c.kind == take) page_index_remove(words, size, c.key, all);
+    if (c.kind == merge) page_index_merge(words, size, c.key, all);
+    if (c.kind == set_job) month_board_set(words, size, job.year, job.month, job.number, c.value, all);
+    if (c.kind == take_job) month_board_remove(words, size, job.year, job.month, job.number, all);
+    if (c.kind == print) month_board_print(words, size, job.year, lines, sizeof lines);
 }
 #endif
 
 // The stores of a call, in order, by the twin.
+using Stores = std::vector<std::pair<std::size_t, word>>;
+
 struct Log {
-    std::vector<std::pair<std::size_t, word>> *stores;
+    Stores *stores;
     void store(std::size_t at, word value) { stores->emplace_back(at, value); }
 };
 
-std::vector<std::pair<std::size_t, word>> stores_of(Words words, const Message &m) {
-    std::vector<std::pair<std::size_t, word>> stores;
-    make_by_twin<Log, twin::Fault::none>(words.data(), m, Log{&stores});
+Stores stores_of(Words words, const Call &c) {
+    Stores stores;
+    make_by_twin<Log, twin::Fault::none>(words.data(), c, Log{&stores});
     return stores;
 }
 
@@ -113,11 +120,12 @@ using Table = std::map<word, word>;
 // The year whose lines are looked at.
 constexpr word year = 2026;
 
-// An index to begin from, what it holds, and the jobs that split its segments.
+// An index to begin from, what it holds, the jobs that split its segments, and how often a child merges these again.
 struct Scene {
     Words image = Words(size, 0);
     Table table;
     std::vector<word> splitting, jobs;
+    int merges = 0;
     double longest = 0;
     cpu_set_t processors;
 
@@ -137,13 +145,28 @@ struct Scene {
         if (!is_job(splitting.back())) fail("no job");
     }
 
-    // A directory of depth 12 with one block at each smaller depth: the block of depth k + 1 has the
-    // keys whose directory bits begin with k ones and a zero.
+    // One segment, full of keys whose directory bits are 1.
     Scene() {
         if (sched_getaffinity(0, sizeof processors, &processors) != 0) fail("sched_getaffinity");
         page_index_format(image.data(), size, depth, segments, all);
         add_segment(twin::before_worst, 1000);
-        add(twin::worst_key, 7);
+    }
+
+    // A directory of depth 12 with one block at each smaller depth: the block of depth k + 1 has the
+    // keys whose directory bits begin with k ones and a zero.
+    void deepen() { add(twin::worst_key, 7); }
+
+    // All of these blocks made one again.
+    void merge_all() {
+        auto prepared = [](page_index_reply reply) {
+            if (reply.code != PAGE_INDEX_DONE) fail("prepare");
+        };
+        prepared(page_index_remove(image.data(), size, twin::worst_key, all));
+        table.erase(twin::worst_key);
+        for (word l = depth; l > 0; l--) prepared(page_index_merge(image.data(), size, twin::worst_key, all));
+    }
+
+    void add_jobs() {
         for (word month = 1; month <= 12; month++) {
             jobs.push_back(twin::key_of(twin::job_with(year, month, 0x1f0 + month)));
             add(jobs.back(), 100 * month);
@@ -154,6 +177,8 @@ struct Scene {
 // Wide blocks full of keys that share twelve directory bits: one more key makes a put of many splits.
 Scene many_splits() {
     Scene scene;
+    scene.deepen();
+    scene.add_jobs();
     for (int k = 0; k < 5; k++) {
         word bits = 0xfff0 - (16u << k);
         scene.add_segment(twin::keys_of_segment(bits), 100 * k);
@@ -166,6 +191,8 @@ Scene many_splits() {
 // whose stores are those of the entries.
 Scene one_split() {
     Scene scene;
+    scene.deepen();
+    scene.add_jobs();
     for (int k = 0; k < 2; k++) {
         word bits = 16 * 65536 + 4096 + (16u << k) - 16;
         for (word h = 0; h < 4; h++)
@@ -175,25 +202,60 @@ Scene one_split() {
     return scene;
 }
 
+// One block, full: one more key splits it into two, the right one with all the pages, and once that key is removed
+// they can be merged again. In a directory of depth 12 most stores are those of entries, in one of depth 1 those
+// of records.
+Scene split_and_merge(bool deep) {
+    Scene scene;
+    if (deep) {
+        scene.deepen();
+        scene.merge_all();
+    }
+    scene.merges = deep ? 12 : 200;
+    scene.add_splitting(5 * 65536 + 4096);
+    return scene;
+}
+
+std::vector<word> keys_of(const Table &table) {
+    std::vector<word> keys;
+    for (const auto &[key, value] : table) keys.push_back(key);
+    return keys;
+}
+
 // The calls of one child: those that split, in some order, by the index or by the board, each with smaller
 // calls behind it.
 constexpr std::size_t group = 7;
 
-std::vector<Message> work(const Scene &scene, std::mt19937_64 &random) {
-    std::vector<word> keys;
-    for (const auto &[key, value] : scene.table) keys.push_back(key);
-    std::vector<word> order = scene.splitting;
+std::vector<Call> splitting_work(const Scene &scene, std::mt19937_64 &random) {
+    std::vector<word> keys = keys_of(scene.table), order = scene.splitting;
     std::shuffle(order.begin(), order.end(), random);
-    std::vector<Message> calls;
+    std::vector<Call> calls;
     for (word key : order) {
         word known = scene.jobs[random() % 12];
-        calls.push_back({random() % 2 ? put : set_job, key, random(), 0});
-        calls.push_back({put, keys[random() % keys.size()], random(), 0});
-        calls.push_back({take, keys[random() % keys.size()], 0, 0});
-        calls.push_back({put, twin::unfolded(3 + 16 * (random() % 512)), random(), 0});
-        calls.push_back({set_job, twin::key_of({year, 1 + random() % 12, random() % 4096}), random(), 0});
-        calls.push_back({take_job, scene.jobs[random() % 12], 0, 0});
-        calls.push_back({random() % 8 ? set_job : print, known, random(), 0});
+        calls.push_back({random() % 2 ? put : set_job, key, random()});
+        calls.push_back({put, keys[random() % keys.size()], random()});
+        calls.push_back({take, keys[random() % keys.size()], 0});
+        calls.push_back({put, twin::unfolded(3 + 16 * (random() % 512)), random()});
+        calls.push_back({set_job, twin::key_of({year, 1 + random() % 12, random() % 4096}), random()});
+        calls.push_back({take_job, scene.jobs[random() % 12], 0});
+        calls.push_back({random() % 8 ? set_job : print, known, random()});
+    }
+    return calls;
+}
+
+// The calls of a child that splits the one block and merges it again, some times. A page gets another value in
+// between, or is removed and put again, so that the left segment differs from what the merge stores there.
+std::vector<Call> merging_work(const Scene &scene, std::mt19937_64 &random) {
+    std::vector<word> keys = keys_of(scene.table);
+    std::vector<Call> calls;
+    word key = scene.splitting[0];
+    for (int round = 0; round < scene.merges; round++) {
+        word page = keys[random() % keys.size()], board = random() % 2, removed = random() % 4 == 0;
+        calls.push_back({board ? set_job : put, key, random()});
+        calls.push_back({board ? take_job : take, key, 0});
+        calls.push_back({removed ? take : put, page, random()});
+        calls.push_back({merge, random() % 2 ? key : page, 0});
+        if (removed) calls.push_back({put, page, random()});
     }
     return calls;
 }
@@ -204,22 +266,31 @@ word *map_file(int fd) {
     return static_cast<word *>(at);
 }
 
-void tell(int pipe, Message m, word answered) {
-    m.answered = answered;
-    if (write(pipe, &m, sizeof m) != sizeof m) _exit(3);
+// How many calls a child has begun and how many were answered, in memory that the parent sees. A system call in
+// place of these stores would be where nearly every kill takes effect.
+struct Progress {
+    std::atomic<std::size_t> begun, answered;
+};
+
+Progress *shared_progress() {
+    void *at = mmap(nullptr, sizeof(Progress), PROT_READ | PROT_WRITE, MAP_SHARED | MAP_ANONYMOUS, -1, 0);
+    if (at == MAP_FAILED) fail("mmap");
+    return new (at) Progress;
 }
 
-[[noreturn]] void child(int fd, int pipe, const std::vector<Message> &calls) {
+[[noreturn]] void child(int fd, Progress &progress, const std::vector<Call> &calls) {
     word *words = map_file(fd);
-    // Every page is touched first, so that the calls take their usual time.
+    // Every page is touched first, and the first call is made on a copy, so that the calls take their usual time.
     for (std::size_t i = 0; i < size; i += 512) {
         volatile word *page = words + i;
         *page = *page;
     }
-    for (const Message &m : calls) {
-        tell(pipe, m, 0);
-        make(words, m);
-        tell(pipe, m, 1);
+    Words copy(words, words + size);
+    make(copy.data(), calls[0]);
+    for (const Call &c : calls) {
+        progress.begun++;
+        make(words, c);
+        progress.answered++;
     }
     _exit(0);
 }
@@ -231,34 +302,23 @@ double now() {
 }
 
 struct Counts {
-    int kills = 0, in_call = 0, inside = 0, mends = 0, inside_board = 0;
-    long acknowledged = 0, by_board = 0, checked = 0, lost = 0, invented = 0, other_stores = 0, unmendable = 0, other_lines = 0;
-};
+    int kills = 0, in_call = 0, inside = 0, mends = 0, inside_board = 0, inside_merge = 0, finished = 0, undone = 0;
+    long answered = 0, by_board = 0, checked = 0, lost = 0, invented = 0, other_stores = 0, unmendable = 0;
+    long other_lines = 0, other_directories = 0;
 
-// What the pipe has said so far.
-struct Heard {
-    std::vector<Message> answered;
-    bool in_flight = false;
-    Message flying{};
-    std::size_t announced = 0;
-
-    // Hears one message; false where the pipe has ended.
-    bool hear(int pipe) {
-        Message m;
-        if (read(pipe, &m, sizeof m) != sizeof m) return false;
-        in_flight = !m.answered;
-        announced += !m.answered;
-        if (m.answered)
-            answered.push_back(m);
-        else
-            flying = m;
-        return true;
+    bool reached() const {
+        return kills >= wanted_kills && inside >= wanted_inside && inside_board >= wanted_by_board &&
+               mends >= wanted_mends && finished >= wanted_finished && undone >= wanted_undone;
     }
+
+    // What a user would notice, and all that differs.
+    long harm() const { return lost + invented + unmendable; }
+    long differences() const { return harm() + other_stores + other_lines + other_directories; }
 };
 
 // Whether the file holds what some number of the call's stores leave; says whether it is some but not all.
-bool is_prefix(const Words &before, const word *file, const Message &m, bool &inside) {
-    auto stores = stores_of(before, m);
+bool is_prefix(const Words &before, const word *file, const Call &c, bool &inside) {
+    auto stores = stores_of(before, c);
     Words words = before;
     std::size_t wrong = 0;
     for (std::size_t i = 0; i < size; i++) wrong += words[i] != file[i];
@@ -273,9 +333,9 @@ bool is_prefix(const Words &before, const word *file, const Message &m, bool &in
     return wrong == 0;
 }
 
-void record(Table &table, const Message &m) {
-    if (m.kind == put || m.kind == set_job) table[m.key] = m.value;
-    if (m.kind == take || m.kind == take_job) table.erase(m.key);
+void record(Table &table, const Call &c) {
+    if (c.kind == put || c.kind == set_job) table[c.key] = c.value;
+    if (c.kind == take || c.kind == take_job) table.erase(c.key);
 }
 
 // A job is looked up by the board.
@@ -315,77 +375,118 @@ void check(const word *file, const Table &before, const Table &after, const Tabl
     counts.other_lines += got.code != PAGE_INDEX_DONE || (text != lines_of(before) && text != lines_of(after));
 }
 
-// One child, one kill, one look at the file.
-void cut(int fd, const Scene &scene, std::mt19937_64 &random, Counts &counts) {
-    word *words = map_file(fd);
-    std::memcpy(words, scene.image.data(), size * sizeof(word));
-    munmap(words, size * sizeof(word));
-    std::vector<Message> calls = work(scene, random);
-    int ends[2];
-    if (pipe(ends) != 0) fail("pipe");
+// Which call has begun some time before the kill: the first where calls are short, else mostly one that splits.
+std::size_t target(const Scene &scene, std::size_t calls, std::mt19937_64 &random) {
+    if (scene.merges) return 0;
+    return random() % 4 ? random() % scene.splitting.size() * group : random() % calls;
+}
+
+// Runs a child that makes the calls and kills it; false where it had ended before.
+bool killed(int fd, const Scene &scene, const std::vector<Call> &calls, std::mt19937_64 &random, Progress &progress) {
+    progress.begun = progress.answered = 0;
     pid_t pid = fork();
     if (pid < 0) fail("fork");
     if (pid == 0) {
         sched_setaffinity(0, sizeof scene.processors, &scene.processors);
         stay_on(1);
-        child(fd, ends[1], calls);
+        child(fd, progress, calls);
     }
-    close(ends[1]);
-    // The kill comes some time after a random call was announced, mostly one that splits.
-    std::size_t target = random() % 4 ? random() % scene.splitting.size() * group : random() % calls.size();
-    Heard heard;
-    while (heard.announced <= target && heard.hear(ends[0])) {
-    }
+    std::size_t awaited = target(scene, calls.size(), random);
+    double patience = now() + 60;
+    while (progress.begun <= awaited)
+        if (now() > patience) fail("no call begins");
     double until = now() + scene.longest * (random() % 1000000) / 1e6;
     while (now() < until) {
     }
     kill(pid, SIGKILL);
     int status;
     waitpid(pid, &status, 0);
-    while (heard.hear(ends[0])) {
-    }
-    close(ends[0]);
-    if (!WIFSIGNALED(status)) return;
-    counts.kills++;
-    counts.in_call += heard.in_flight;
-    counts.acknowledged += long(heard.answered.size());
-    counts.by_board += std::count_if(heard.answered.begin(), heard.answered.end(), by_board);
+    if (WIFSIGNALED(status) && WTERMSIG(status) != SIGKILL) fail("child");
+    return WIFSIGNALED(status);
+}
 
+// The number of words before the segments.
+constexpr std::size_t directory_end = 2u << depth;
+
+// Mends the file that a kill within a merge has left. Where the first entry was stored, the directory must be that
+// of the whole merge then, else the old one.
+page_index_reply mend_merge(const Words &before, word *file, const Call &c, Counts &counts) {
+    Stores stores = stores_of(before, c);
+    auto in_directory = [](const auto &store) { return store.first < directory_end; };
+    auto [at, entry] = *std::find_if(stores.begin(), stores.end(), in_directory);
+    bool begun = file[at] == entry;
+    Words whole = before;
+    make_by_twin<twin::NoLog, twin::Fault::none>(whole.data(), c, {});
+    page_index_reply mended = page_index_mend(file, size, all);
+    counts.inside_merge++;
+    (begun ? counts.finished : counts.undone)++;
+    counts.other_directories += !std::equal(file, file + directory_end, begun ? whole.data() : before.data());
+    return mended;
+}
+
+// Looks at the file that a kill has left, mends it, and checks it.
+void examine(word *file, const Scene &scene, const std::vector<Call> &calls, const Progress &progress, Counts &counts) {
     Words before = scene.image;
     Table told = scene.table, used = scene.table;
-    for (const Message &m : calls) used[m.key] = 0;
-    for (const Message &m : heard.answered) {
-        make(before.data(), m);
-        record(told, m);
+    for (const Call &c : calls) used[c.key] = 0;
+    for (std::size_t i = 0; i < progress.answered; i++) {
+        make(before.data(), calls[i]);
+        record(told, calls[i]);
     }
     Table either = told;
-    words = map_file(fd);
-    bool inside = false;
-    if (heard.in_flight) {
-        record(either, heard.flying);
-        if (!is_prefix(before, words, heard.flying, inside)) counts.other_stores++;
-    } else if (std::memcmp(before.data(), words, size * sizeof(word)) != 0) {
-        counts.other_stores++;
-    }
+    bool in_flight = progress.begun > progress.answered, inside = false;
+    const Call flying = in_flight ? calls[progress.answered] : Call{};
+    record(either, flying);
+    if (in_flight)
+        counts.other_stores += !is_prefix(before, file, flying, inside);
+    else
+        counts.other_stores += std::memcmp(before.data(), file, size * sizeof(word)) != 0;
+    counts.in_call += in_flight;
     counts.inside += inside;
-    counts.inside_board += inside && by_board(heard.flying);
-    page_index_reply mended = page_index_mend(words, size, all);
-    counts.mends += mended.stores > 0;
+    counts.inside_board += inside && by_board(flying);
+    bool in_merge = inside && flying.kind == merge;
+    page_index_reply mended = in_merge ? mend_merge(before, file, flying, counts) : page_index_mend(file, size, all);
+    counts.mends += mended.stores > 0 && !in_merge;
     counts.unmendable += mended.code != PAGE_INDEX_DONE;
-    check(words, told, either, used, counts);
+    check(file, told, either, used, counts);
+}
+
+// One child, one kill, one look at the file.
+void cut(int fd, const Scene &scene, std::mt19937_64 &random, Progress &progress, Counts &counts) {
+    word *words = map_file(fd);
+    std::memcpy(words, scene.image.data(), size * sizeof(word));
+    munmap(words, size * sizeof(word));
+    std::vector<Call> calls = scene.merges ? merging_work(scene, random) : splitting_work(scene, random);
+    if (!killed(fd, scene, calls, random, progress)) return;
+    counts.kills++;
+    counts.answered += long(progress.answered);
+    counts.by_board += std::count_if(calls.begin(), calls.begin() + long(progress.answered), by_board);
+    words = map_file(fd);
+    examine(words, scene, calls, progress, counts);
     munmap(words, size * sizeof(word));
 }
 
-// How long a put that splits takes, and somewhat more.
-double measure(const Scene &scene) {
+// How long a put that splits takes, or all calls of a child that merges, and somewhat more.
+double measure(const Scene &scene, std::mt19937_64 &random) {
+    std::vector<Call> calls;
+    for (word key : scene.splitting) calls.push_back({put, key, 1});
+    double parts = double(calls.size());
+    if (scene.merges) calls = merging_work(scene, random);
     Words words = scene.image;
     double start = now();
-    for (word key : scene.splitting) make(words.data(), {put, key, 1, 0});
-    return 1.3 * (now() - start) / double(scene.splitting.size());
+    for (const Call &c : calls) make(words.data(), c);
+    return 1.3 * (now() - start) / parts;
 }
 
-[[maybe_unused]] bool reached(const Counts &c) {
-    return c.kills >= wanted_kills && c.inside >= wanted_inside && c.inside_board >= wanted_by_board && c.mends >= wanted_mends;
+void print_counts(const char *seed, const Counts &c) {
+    std::printf("seed %s, kills %d, during a call %d, between its first and last store %d, mends that made a store %d\n",
+                seed, c.kills, c.in_call, c.inside, c.mends + c.finished);
+    std::printf("answered calls %ld, lookups %ld: pages lost %ld, invented %ld, not mendable %ld, stores out of order %ld\n",
+                c.answered, c.checked, c.lost, c.invented, c.unmendable, c.other_stores);
+    std::printf("of them by the board: answered calls %ld, kills between the first and last store %d; printed years that differ %ld\n",
+                c.by_board, c.inside_board, c.other_lines);
+    std::printf("of them in merges: kills between the first and last store %d, finished by the mend %d, left undone %d; "
+                "other directories %ld\n", c.inside_merge, c.finished, c.undone, c.other_directories);
 }
 
 }  // namespace
@@ -395,28 +496,20 @@ int main(int count, char **arguments) {
     std::mt19937_64 random(std::stoull(arguments[2]));
     int fd = open(arguments[1], O_RDWR | O_CREAT | O_TRUNC, 0600);
     if (fd < 0 || ftruncate(fd, size * sizeof(word)) != 0) fail(arguments[1]);
-    Scene scenes[] = {many_splits(), one_split()};
-    for (Scene &scene : scenes) scene.longest = measure(scene);
+    Scene scenes[] = {many_splits(), one_split(), split_and_merge(true), split_and_merge(false)};
+    constexpr int shares[] = {0, 1, 1, 1, 2, 2, 2, 3};
+    for (Scene &scene : scenes) scene.longest = measure(scene, random);
     stay_on(0);
+    Progress *progress = shared_progress();
     Counts c;
-    auto wanted = [&c] {
 #ifdef FAULT
-        return c.lost + c.invented + c.unmendable < 10;
+    while (c.kills < most_kills && c.harm() < 10) cut(fd, scenes[shares[random() % 8]], random, *progress, c);
+    print_counts(arguments[2], c);
+    return c.harm() > 0 ? 0 : 1;
 #else
-        return !reached(c);
-#endif
-    };
-    while (c.kills < most_kills && wanted())
-        cut(fd, scenes[random() % 4 != 0], random, c);
-    std::printf("seed %s, kills %d, during a call %d, between its first and last store %d, mends that made a store %d\n",
-                arguments[2], c.kills, c.in_call, c.inside, c.mends);
-    std::printf("acknowledged calls %ld, lookups %ld: pages lost %ld, invented %ld, not mendable %ld, stores out of order %ld\n",
-                c.acknowledged, c.checked, c.lost, c.invented, c.unmendable, c.other_stores);
-    std::printf("of them by the board: acknowledged calls %ld, kills between the first and last store %d; printed years that differ %ld\n",
-                c.by_board, c.inside_board, c.other_lines);
-#ifdef FAULT
-    return c.lost + c.invented + c.unmendable > 0 ? 0 : 1;
-#else
-    return reached(c) && c.lost + c.invented + c.unmendable + c.other_stores + c.other_lines == 0 ? 0 : 1;
+    while (c.kills < most_kills && !c.reached() && c.differences() < 10)
+        cut(fd, scenes[shares[random() % 8]], random, *progress, c);
+    print_counts(arguments[2], c);
+    return c.reached() && c.differences() == 0 ? 0 : 1;
 #endif
 }

@@ -2,7 +2,7 @@
 // time; after every instruction the parent looks for words of the array that have changed. The
 // changes, in the order seen, must be the stores of the defined plan (by the twin, which the
 // comparison tests hold against the rules) that change a word, one for each instruction. The calls that
-// make no store run at full speed on an array that cannot be written.
+// make no store, and merges that are refused, run at full speed on an array that cannot be written.
 #include "../../bindings/c/month_board.h"
 #include "../twin/twin.hpp"
 
@@ -40,6 +40,7 @@ struct Log {
 using Logged = twin::Index<Log>;
 using KeyFirst = twin::Index<Log, twin::Fault::key_first>;
 using LeftToRight = twin::Index<Log, twin::Fault::entries_left_to_right>;
+using RightToLeft = twin::Index<Log, twin::Fault::merged_right_to_left>;
 using LoggedBoard = twin::Board<Log>;
 using KeyFirstBoard = twin::Board<Log, twin::Fault::key_first>;
 
@@ -152,6 +153,28 @@ Words cut_split(std::uint32_t allowance) {
     return words;
 }
 
+// Two blocks of depth 1 in a directory of depth 2. Slot by slot the left key is none, live or stale, and the right
+// one too, all pairs by turns but both live, which only slot `both` is.
+Words to_merge(word both = 64) {
+    Words words = formatted();
+    words[0] += 2;
+    for (word i = 0; i < 4; i++) words[4 + i] = i / 2 | word(1) << 32;
+    for (word slot = 0; slot < 64; slot++) {
+        auto key = [=](word half, word high) { return twin::unfolded(high << 16 | slot << 8 | half << 4 | slot / 4); };
+        const word left[] = {0, key(0, 1), key(1, 2)}, right[] = {0, key(1, 1), key(0, 2)};
+        word pair = slot % 9;
+        words[8 + 2 * slot] = left[pair / 3];
+        words[8 + 128 + 2 * slot] = pair == 4 && slot != both ? 0 : right[pair % 3];
+    }
+    return words;
+}
+
+Words cut_merge(std::uint32_t allowance) {
+    Words words = to_merge();
+    page_index_merge(words.data(), size, 7, allowance);
+    return words;
+}
+
 // Puts keys `step` apart until the next one makes a split, and answers that one.
 word fill(Words &words, word key, word step) {
     for (;; key += step) {
@@ -176,6 +199,20 @@ template <class Faulty>
 Case fault_case(const char *name, const Words &before, word key) {
     return {name, before, [=](word *w) { return page_index_put(w, size, key, 1, all); },
             [=](word *w, Log log) { Faulty(w, size, log).put(key, 1, all); }, true};
+}
+
+// A merge, which is answered with this code.
+Case merge_case(const char *name, const Words &before, word key, std::uint32_t code, std::uint32_t allowance = all) {
+    Words words = before;
+    if (page_index_merge(words.data(), size, key, allowance).code != code) fail(name);
+    return {name, before, [=](word *w) { return page_index_merge(w, size, key, allowance); },
+            [=](word *w, Log log) { Logged(w, size, log).merge(key, allowance); }};
+}
+
+template <class Faulty>
+Case merge_fault_case(const char *name) {
+    return {name, to_merge(), [](word *w) { return page_index_merge(w, size, 7, all); },
+            [](word *w, Log log) { Faulty(w, size, log).merge(7, all); }, true};
 }
 
 // A set of a job of March 2026 by the board.
@@ -203,11 +240,36 @@ std::vector<Case> board_cases() {
     };
 }
 
+// Two splits: the block of directory bit 0 is in two of depth 2, that of directory bit 1 has depth 1.
+Words split_twice() {
+    Words words = full();
+    page_index_put(words.data(), size, 263, 1, all);
+    page_index_put(words.data(), size, fill(words, 7, 32), 1, all);
+    return words;
+}
+
+// The merge makes 42 stores in the left segment, then those of 4 entries.
+std::vector<Case> merge_cases() {
+    return {
+        merge_case("merge", to_merge(), 7, PAGE_INDEX_DONE),
+        merge_case("merge by a key of the right block", to_merge(), 55, PAGE_INDEX_DONE),
+        merge_case("merge, 20 stores allowed", to_merge(), 7, PAGE_INDEX_CUT_OFF, 20),
+        merge_case("merge, 44 stores allowed", to_merge(), 7, PAGE_INDEX_CUT_OFF, 44),
+        {"mend that finishes a merge", cut_merge(43), [](word *w) { return page_index_mend(w, size, all); },
+         [](word *w, Log log) { Logged(w, size, log).mend(all); }},
+        {"mend that leaves a merge undone", cut_merge(42), [](word *w) { return page_index_mend(w, size, all); },
+         [](word *w, Log log) { Logged(w, size, log).mend(all); }},
+        merge_case("merge of the only block", formatted(), 7, PAGE_INDEX_NO_BUDDY),
+        merge_case("merge with a deeper buddy", split_twice(), 23, PAGE_INDEX_NO_BUDDY),
+        merge_case("merge with a slot live twice", to_merge(58), 7, PAGE_INDEX_BOTH_LIVE),
+        merge_fault_case<KeyFirst>("merge against the key stored first"),
+        merge_fault_case<RightToLeft>("merge against entries from right to left"),
+    };
+}
+
 std::vector<Case> cases() {
-    // Two splits of the block of directory bit 0, then the wide block of directory bit 1 full.
-    Words wide = full();
-    page_index_put(wide.data(), size, 263, 1, all);
-    page_index_put(wide.data(), size, fill(wide, 7, 32), 1, all);
+    // The wide block of directory bit 1 full.
+    Words wide = split_twice();
     word last = fill(wide, 23, 32);
     return {
         format_case("format", all),
@@ -228,20 +290,20 @@ std::vector<Case> cases() {
     };
 }
 
-// How a call ends on the words of a full board where none can be written.
-std::string unwritable(const char *name, word *shared, const std::function<page_index_reply(word *)> &call) {
-    Words before = full_board();
+// How a call that is due this code ends where no word can be written.
+std::string unwritable(const char *name, word *shared, const Words &before, std::uint32_t code,
+                       const std::function<page_index_reply(word *)> &call) {
     std::memcpy(shared, before.data(), size * sizeof(word));
     pid_t pid = fork();
     if (pid < 0) fail("fork");
     if (pid == 0) {
         if (mprotect(shared, size * sizeof(word), PROT_READ) != 0) fail("mprotect");
-        _exit(call(shared).code == PAGE_INDEX_DONE ? 0 : 1);
+        _exit(call(shared).code == code ? 0 : 1);
     }
     int status;
     waitpid(pid, &status, 0);
     std::string end = "ANOTHER ANSWER";
-    if (WIFEXITED(status) && WEXITSTATUS(status) == 0) end = "done";
+    if (WIFEXITED(status) && WEXITSTATUS(status) == 0) end = code == PAGE_INDEX_DONE ? "done" : "refused";
     if (WIFSIGNALED(status) && WTERMSIG(status) == SIGSEGV) end = "a store";
     std::printf("%-40s on words that cannot be written: %s\n", name, end.c_str());
     return end;
@@ -260,11 +322,22 @@ bool readers_pass(word *shared) {
         return month_board_print(w, size, 2026, lines, sizeof lines);
     };
     auto set = [](word *w) { return month_board_set(w, size, 2026, 3, 39, 1, all); };
-    bool done = unwritable("get", shared, get) == "done";
-    done &= unwritable("list", shared, list) == "done";
-    done &= unwritable("board: read", shared, read) == "done";
-    done &= unwritable("board: print", shared, print) == "done";
-    return unwritable("board: set", shared, set) == "a store" && done;
+    Words board = full_board();
+    bool done = unwritable("get", shared, board, PAGE_INDEX_DONE, get) == "done";
+    done &= unwritable("list", shared, board, PAGE_INDEX_DONE, list) == "done";
+    done &= unwritable("board: read", shared, board, PAGE_INDEX_DONE, read) == "done";
+    done &= unwritable("board: print", shared, board, PAGE_INDEX_DONE, print) == "done";
+    return unwritable("board: set", shared, board, PAGE_INDEX_DONE, set) == "a store" && done;
+}
+
+// A refused merge makes no store, not even of what is there already; one that is done is seen.
+bool merges_pass(word *shared) {
+    auto ends = [=](const char *name, const Words &before, std::uint32_t code) {
+        return unwritable(name, shared, before, code, [](word *w) { return page_index_merge(w, size, 7, all); });
+    };
+    bool refused = ends("merge of the only block", formatted(), PAGE_INDEX_NO_BUDDY) == "refused";
+    refused &= ends("merge with a slot live twice", to_merge(58), PAGE_INDEX_BOTH_LIVE) == "refused";
+    return ends("merge", to_merge(), PAGE_INDEX_DONE) == "a store" && refused;
 }
 
 }  // namespace
@@ -275,6 +348,8 @@ int main() {
     word *shared = static_cast<word *>(at);
     bool sound = true;
     for (const Case &c : cases()) sound = passes(c, shared) && sound;
+    for (const Case &c : merge_cases()) sound = passes(c, shared) && sound;
     for (const Case &c : board_cases()) sound = passes(c, shared) && sound;
-    return readers_pass(shared) && sound ? 0 : 1;
+    sound = readers_pass(shared) && sound;
+    return merges_pass(shared) && sound ? 0 : 1;
 }

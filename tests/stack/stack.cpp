@@ -72,6 +72,16 @@ Words before_most_stores() {
     return words;
 }
 
+// The same keys behind the put with the most stores, whose key is removed, and all merges but the last: the right
+// half of a directory of depth 12 has them all, the left half none.
+Words before_widest_merge() {
+    Words words = before_most_stores();
+    page_index_put(words.data(), words.size(), twin::worst_key, 1, all);
+    page_index_remove(words.data(), words.size(), twin::worst_key, all);
+    for (int l = 12; l > 1; l--) page_index_merge(words.data(), words.size(), twin::worst_key, all);
+    return words;
+}
+
 // Running numbers from 1 on, up to the first refusal.
 Words full(word &pages) {
     Words words = formatted(8, 256);
@@ -131,6 +141,8 @@ int main() {
                     [](word *w, std::size_t n) { return page_index_put(w, n, twin::worst_key, 1, all); });
     sound &= passes("remove", index, 1, [=](word *w, std::size_t n) { return page_index_remove(w, n, pages, all); });
     sound &= passes("mend", to_mend(), 4095, [](word *w, std::size_t n) { return page_index_mend(w, n, all); });
+    sound &= passes("merge with the most stores", before_widest_merge(), 4224,
+                    [](word *w, std::size_t n) { return page_index_merge(w, n, twin::worst_key, all); });
     sound &= passes("list of a full index", index, 0,
                     [&](word *w, std::size_t n) { return page_index_list(w, n, list.data(), list.size()); });
     sound &= board_passes();

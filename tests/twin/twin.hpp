@@ -23,6 +23,8 @@ enum Code : std::uint32_t {
     bad_year = 11,
     bad_month = 12,
     bad_number = 13,
+    no_buddy = 14,
+    both_live = 15,
     absent = 255,
 };
 
@@ -32,9 +34,9 @@ struct Answer {
     word value;
 };
 
-// Faults that a test can put in: key before value, entries from left to right, and records cleared in
-// the old segment before the entries name the new one.
-enum class Fault { none, key_first, entries_left_to_right, moved_records_cleared };
+// Faults that a test can put in: key before value; in a split, entries from left to right, and records cleared
+// in the old segment before the entries name the new one; in a merge, entries from right to left.
+enum class Fault { none, key_first, entries_left_to_right, moved_records_cleared, merged_right_to_left };
 
 // What a key's bucket and directory bits are taken from: its folded key (document 02, wish 4), or the key as
 // it stands (document 01), which bench/steps compares with it.
@@ -107,6 +109,27 @@ class Index {
         word *at = find(segment(std::uint32_t(e)), key, folded_key);
         if (at == nullptr) return refuse(absent);
         store(at - w, 0);
+        return end(done);
+    }
+
+    // Joins the key's block with its buddy (document 02, wish 6).
+    Answer merge(word key, std::uint32_t allowance) {
+        begin(allowance);
+        if (std::uint32_t no = check(key)) return refuse(no);
+        const word *entries = w + (std::size_t(1) << g);
+        std::size_t i = route(fold(key), g);
+        unsigned l = unsigned(entries[i] >> 32);
+        if (l == 0) return refuse(no_buddy);
+        std::size_t half = std::size_t(1) << (g - l), start = i & ~(2 * half - 1);
+        // In a consistent directory one of these two is the key's own entry.
+        word left = entries[start], right = entries[start + half];
+        if (left >> 32 != right >> 32) return refuse(no_buddy);
+        word *a = segment(std::uint32_t(left)), *b = segment(std::uint32_t(right));
+        std::size_t bits = start >> (g - l);
+        word left_live = live_slots(a, l, bits), right_live = live_slots(b, l, bits + 1);
+        if (left_live & right_live) return refuse(both_live);
+        join_segments(a, b, left_live, right_live);
+        join_entries((std::size_t(1) << g) + start, 2 * half, std::uint32_t(left) | word(l - 1) << 32);
         return end(done);
     }
 
@@ -296,6 +319,32 @@ class Index {
         } else {
             for (std::size_t e = 2 * half; e-- > half;) store(start + e, right);
             for (std::size_t e = half; e-- > 0;) store(start + e, left);
+        }
+    }
+
+    // The slots of a segment whose keys have these first `l` directory bits, a bit for each.
+    static word live_slots(const word *base, unsigned l, std::size_t bits) {
+        word live = 0;
+        for (unsigned j = 0; j < slots; j++)
+            live |= word(base[2 * j] != 0 && route(fold(base[2 * j]), l) == bits) << j;
+        return live;
+    }
+
+    // The live records of b go to the same slots of a; keys of a where neither has a live one become 0.
+    void join_segments(const word *a, const word *b, word left_live, word right_live) {
+        for (unsigned j = 0; j < slots; j++) {
+            if (right_live >> j & 1)
+                store_record(a + 2 * j - w, b[2 * j], b[2 * j + 1]);
+            else if (!(left_live >> j & 1) && a[2 * j] != 0)
+                store(a + 2 * j - w, 0);
+        }
+    }
+
+    void join_entries(std::size_t start, std::size_t width, word entry) {
+        if constexpr (fault == Fault::merged_right_to_left) {
+            for (std::size_t e = width; e-- > 0;) store(start + e, entry);
+        } else {
+            for (std::size_t e = 0; e < width; e++) store(start + e, entry);
         }
     }
 

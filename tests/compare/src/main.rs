@@ -8,6 +8,7 @@ mod one_number;
 
 use model::{Answer, Call, ABSENT, DONE};
 use page_index::Refused;
+use std::collections::BTreeMap;
 
 /// A generator of 64-bit numbers (xorshift64*), so that a seed gives the same calls everywhere.
 struct Random(u64);
@@ -29,7 +30,7 @@ impl Random {
     }
 }
 
-/// How often each code came for each call.
+/// How often each code came for each call, and calls of certain kinds.
 #[derive(Default)]
 struct Counts {
     calls: u64,
@@ -37,7 +38,11 @@ struct Counts {
     damaged: u64,
     /// Calls on an array whose word 0 has the old mark.
     old: u64,
-    codes: std::collections::BTreeMap<(&'static str, u32), u64>,
+    codes: BTreeMap<(&'static str, u32), u64>,
+    /// The codes of merges in runs, and on damaged or random arrays (true).
+    merges: BTreeMap<(bool, u32), u64>,
+    /// Merges of two blocks that name one segment, with the tests passed.
+    one_segment: u64,
     one_number: one_number::Counts,
 }
 
@@ -52,6 +57,19 @@ impl Counts {
         self.cut += (got.code == model::CUT_OFF) as u64;
         *self.codes.entry((call, got.code)).or_default() += 1;
     }
+
+    /// Prints the counts of merges; whether each of them came about.
+    fn report_merges(&self) -> bool {
+        let mut all = self.one_segment > 0;
+        for (damaged, arrays) in [(false, "in runs"), (true, "on damaged or random arrays")] {
+            let count = |code| self.merges.get(&(damaged, code)).copied().unwrap_or(0);
+            let [done, cut, no_buddy, both_live] = [DONE, model::CUT_OFF, 14, 15].map(count);
+            println!("merges {arrays}: done {done}, cut {cut}, no buddy {no_buddy}, both live {both_live}");
+            all &= [done, cut, no_buddy, both_live].iter().all(|&count| count > 0);
+        }
+        println!("merges of two blocks that name one segment: {}", self.one_segment);
+        all
+    }
 }
 
 fn name(call: Call) -> &'static str {
@@ -61,6 +79,7 @@ fn name(call: Call) -> &'static str {
         Call::Put(..) => "put",
         Call::Remove(..) => "remove",
         Call::Mend(..) => "mend",
+        Call::Merge(..) => "merge",
         Call::List => "list",
     }
 }
@@ -80,6 +99,7 @@ fn made(words: &mut [u64], list: &mut [u64], call: Call) -> Answer {
         Call::Put(key, value, n) => page_index::put(words, key, value, n).map(|stores| (DONE, stores, 0)),
         Call::Remove(key, n) => page_index::remove(words, key, n).map(|s| s.map_or((ABSENT, 0, 0), |s| (DONE, s, 0))),
         Call::Mend(n) => page_index::mend(words, n).map(|stores| (DONE, stores, 0)),
+        Call::Merge(key, n) => page_index::merge(words, key, n).map(|stores| (DONE, stores, 0)),
         Call::List => page_index::list(words, list).map(|count| (DONE, 0, count as u64)),
     })
 }
@@ -155,7 +175,7 @@ fn known(r: &mut Random, used: &[u64]) -> u64 {
 }
 
 fn call(r: &mut Random, used: &mut Vec<u64>) -> Call {
-    match r.below(40) {
+    match r.below(42) {
         0 if r.chance(4) => Call::Format(r.below(15), r.below(20), allowance(r)),
         0..=8 => Call::Get(known(r, used)),
         9..=26 => {
@@ -165,7 +185,27 @@ fn call(r: &mut Random, used: &mut Vec<u64>) -> Call {
         }
         27..=32 => Call::Remove(known(r, used), allowance(r)),
         33..=37 => Call::Mend(allowance(r)),
-        _ => Call::List,
+        38..=39 => Call::List,
+        _ => Call::Merge(known(r, used), allowance(r)),
+    }
+}
+
+/// A call where the index is to become full: often a put of a key of this bucket.
+fn filling_call(r: &mut Random, bucket: u64, used: &mut Vec<u64>) -> Call {
+    if r.chance(2) {
+        return call(r, used);
+    }
+    used.push(unfolded(bucket + (16 << r.below(4)) * r.below(60)));
+    Call::Put(used[used.len() - 1], value(r), allowance(r))
+}
+
+/// A call where the index is to become empty: mostly a merge, or a remove of the key that was put last. So blocks can
+/// be merged while they still have pages.
+fn emptying_call(r: &mut Random, used: &mut Vec<u64>) -> Call {
+    match r.below(8) {
+        0..=4 => Call::Remove(used.pop().unwrap_or_else(|| key(r)), allowance(r)),
+        5..=6 => Call::Merge(known(r, used), allowance(r)),
+        _ => call(r, used),
     }
 }
 
@@ -190,7 +230,48 @@ fn damage(words: &mut [u64], r: &mut Random) {
     };
 }
 
-/// A run from a format on, of up to `steps` calls, with damage between them if asked.
+/// Gives one half of a pair of blocks the entries of the other, so that both name one segment, or exchanges them.
+/// Answers whether there is such a pair.
+fn confuse(words: &mut [u64], r: &mut Random) -> bool {
+    let g = words[0] % 256;
+    let index = r.below(1 << g) as usize;
+    let depth = words[(1 << g) + index] >> 32;
+    if !(1..=g).contains(&depth) {
+        return false;
+    }
+    let width = 1usize << (g - depth);
+    let first = (1 << g) + index / (2 * width) * 2 * width;
+    let (left, right) = words[first..first + 2 * width].split_at_mut(width);
+    match r.below(3) {
+        0 => left.copy_from_slice(right),
+        1 => right.copy_from_slice(left),
+        _ => left.swap_with_slice(right),
+    }
+    true
+}
+
+/// Makes a call on both arrays, damaged or not, and counts what it was made on.
+fn step(ours: &mut [u64], theirs: &mut [u64], call: Call, room: usize, damaged: bool, counts: &mut Counts) -> Answer {
+    counts.damaged += damaged as u64;
+    let Call::Merge(key, _) = call else { return compare(ours, theirs, call, room, counts) };
+    counts.one_segment += model::halves(ours, key).is_ok_and(|[a, b]| a.segment == b.segment) as u64;
+    let got = compare(ours, theirs, call, room, counts);
+    *counts.merges.entry((damaged, got.code)).or_default() += 1;
+    got
+}
+
+/// The call on a copy of an array that a run has left, with damage.
+fn beside(words: &[u64], call: Call, room: usize, r: &mut Random, counts: &mut Counts) {
+    let mut ours = words.to_vec();
+    if r.chance(2) || !confuse(&mut ours, r) {
+        damage(&mut ours, r);
+    }
+    let mut theirs = ours.clone();
+    step(&mut ours, &mut theirs, call, room, true, counts);
+}
+
+/// A run from a format on, of `steps` calls, with damage between them if asked. Else they now fill the index and now
+/// empty it, and some are made on a damaged copy as well.
 fn run(r: &mut Random, steps: u64, damaged: bool, counts: &mut Counts) {
     let d = 2 + r.below(5);
     let s = 1 + r.below((1 << d).min(24));
@@ -203,19 +284,27 @@ fn run(r: &mut Random, steps: u64, damaged: bool, counts: &mut Counts) {
     let mut ours: Vec<u64> = (0..size).map(|_| if r.chance(2) { 0 } else { r.next() }).collect();
     let mut theirs = ours.clone();
     compare(&mut ours, &mut theirs, Call::Format(d, s, u32::MAX), 0, counts);
-    let mut used = Vec::new();
+    let (bucket, full) = (r.below(16), r.below(200) as usize);
+    let (mut used, mut emptying) = (Vec::new(), false);
     for _ in 0..steps {
         if damaged && r.chance(4) {
             damage(&mut ours, r);
             theirs.copy_from_slice(&ours);
         }
+        emptying = if emptying { !used.is_empty() } else { used.len() > full };
         let room = if r.chance(3) { r.below(40) as usize } else { 2 * 64 * 24 };
-        counts.damaged += damaged as u64;
-        let call = call(r, &mut used);
+        let call = match emptying {
+            _ if damaged => call(r, &mut used),
+            true => emptying_call(r, &mut used),
+            false => filling_call(r, bucket, &mut used),
+        };
         if r.chance(8) {
             one_number::compare(&ours, call, value(r), &mut counts.one_number);
         }
-        let got = compare(&mut ours, &mut theirs, call, room, counts);
+        if !damaged && r.chance(4) {
+            beside(&ours, call, room, r, counts);
+        }
+        let got = step(&mut ours, &mut theirs, call, room, damaged, counts);
         if got.code == 1 && !damaged {
             compare(&mut ours, &mut theirs, Call::Format(d, s, u32::MAX), 0, counts);
         }
@@ -242,11 +331,10 @@ fn random_array(r: &mut Random, counts: &mut Counts) {
     let mut ours = random_words(r);
     let mut theirs = ours.clone();
     for _ in 0..3 {
-        counts.damaged += 1;
         let room = r.below(4000) as usize;
         let call = call(r, &mut Vec::new());
         one_number::compare(&ours, call, value(r), &mut counts.one_number);
-        compare(&mut ours, &mut theirs, call, room, counts);
+        step(&mut ours, &mut theirs, call, room, true, counts);
     }
 }
 
@@ -271,7 +359,8 @@ fn main() {
         println!("{call} {code}: {count}");
     }
     assert!(counts.old > 0, "no word 0 had the old mark");
-    if !one_number::report(&counts.one_number) {
+    let merged = counts.report_merges();
+    if !one_number::report(&counts.one_number) || !merged {
         std::process::exit(1);
     }
     let mut counts = board::BoardCounts::default();

@@ -1,4 +1,4 @@
-//! The six calls written from documents 01 and 02 alone. A call is first a list of stores and a reply, both
+//! The seven calls written from documents 01 and 02 alone. A call is first a list of stores and a reply, both
 //! computed on a copy of the array; then as many of the stores as are allowed are made.
 
 pub const DONE: u32 = 0;
@@ -15,6 +15,7 @@ pub enum Call {
     Put(u64, u64, u32),
     Remove(u64, u32),
     Mend(u32),
+    Merge(u64, u32),
     List,
 }
 
@@ -148,7 +149,7 @@ fn slot_for_new(words: &[u64], shape: Shape, e: Entry, key: u64) -> Option<usize
     empty.or_else(|| slots().find(|&at| words[at] != 0 && !is_live(words[at], &block)))
 }
 
-/// The tests of put and remove.
+/// The tests of put, remove and merge.
 fn checked(words: &[u64], key: u64) -> Result<Shape, u32> {
     let shape = shape(words).ok_or(1u32)?;
     if key == 0 {
@@ -277,6 +278,61 @@ fn mend(draft: &mut Draft) -> u32 {
     DONE
 }
 
+/// The indices of the directory that have these first bits, from the left.
+fn indices(shape: Shape, block: &[bool]) -> impl Iterator<Item = usize> + '_ {
+    (0..1usize << shape.g).filter(move |&i| bits_of(i, shape.g).starts_with(block))
+}
+
+/// One of the two blocks that a merge joins: its first bits, as many as its depth, and its segment.
+pub struct Half {
+    bits: Vec<bool>,
+    pub segment: u64,
+}
+
+/// The left and the right block of a merge on this key, or its refusal (document 02, wish 6).
+pub fn halves(words: &[u64], key: u64) -> Result<[Half; 2], u32> {
+    let shape = checked(words, key)?;
+    let own = entry(words, shape, number(&route(key, shape.g as u64)));
+    let bits = route(key, own.depth);
+    let Some((&right, joined)) = bits.split_last() else { return Err(14) };
+    let other = [joined, &[!right]].concat();
+    let first = indices(shape, &other).next().expect("the buddy is no deeper than the directory");
+    let buddy = entry(words, shape, first);
+    if buddy.depth != own.depth {
+        return Err(14);
+    }
+    let mut pair = [Half { bits, segment: own.segment }, Half { bits: other, segment: buddy.segment }];
+    if right {
+        pair.reverse();
+    }
+    let live = |half: &Half, slot: usize| is_live(words[slot_address(shape, half.segment, slot)], &half.bits);
+    let both = (0..64).any(|slot| pair.iter().all(|half| live(half, slot)));
+    if both { Err(15) } else { Ok(pair) }
+}
+
+fn merge(draft: &mut Draft, key: u64) -> u32 {
+    let [a, b] = match halves(&draft.words, key) {
+        Ok(pair) => pair,
+        Err(code) => return code,
+    };
+    let shape = shape(&draft.words).expect("the tests have passed");
+    for slot in 0..64 {
+        let [to, from] = [&a, &b].map(|half| slot_address(shape, half.segment, slot));
+        let [old, moved] = [draft.words[to], draft.words[from]];
+        if is_live(moved, &b.bits) {
+            draft.store(to + 1, draft.words[from + 1]);
+            draft.store(to, moved);
+        } else if old != 0 && !is_live(old, &a.bits) {
+            draft.store(to, 0);
+        }
+    }
+    let (_, joined) = a.bits.split_last().expect("the depth is not 0");
+    for i in indices(shape, joined) {
+        draft.store((1 << shape.g) + i, a.segment | (joined.len() as u64) << 32);
+    }
+    DONE
+}
+
 /// The records of the walk's segments, key then value: block by block from the left of the directory, and by
 /// rising slot number within a segment (document 02, wish 3).
 fn records(words: &[u64]) -> Result<Vec<u64>, u32> {
@@ -320,6 +376,7 @@ pub fn perform(words: &mut [u64], list: &mut [u64], call: Call) -> Answer {
         Call::Put(key, value, n) => (put(&mut draft, key, value), n),
         Call::Remove(key, n) => (remove(&mut draft, key), n),
         Call::Mend(n) => (mend(&mut draft), n),
+        Call::Merge(key, n) => (merge(&mut draft, key), n),
     };
     let made = draft.due.len().min(allowance as usize);
     for &(at, word) in &draft.due[..made] {

@@ -34,6 +34,7 @@ fn one_more(call: Call) -> Option<Call> {
         Call::Put(key, value, n) => more(n).map(|n| Call::Put(key, value, n)),
         Call::Remove(key, n) => more(n).map(|n| Call::Remove(key, n)),
         Call::Mend(n) => more(n).map(Call::Mend),
+        Call::Merge(key, n) => more(n).map(|n| Call::Merge(key, n)),
         Call::Get(..) | Call::List => None,
     }
 }
