@@ -19,7 +19,7 @@ use Rattle.stores.proofs.Lists.{each-same}
 use Rattle.rules.specs.Layout.{depth, entryAddress, entryAt, entry, segmentOf, localDepth}
 use Rattle.rules.specs.Keys.{firstBits, index, width, blockStart}
 use Rattle.rules.specs.Get.{keyEntry}
-use Rattle.rules.specs.Merge.{rightStart, onRight, buddyStart, joinedDepth, buddyEntry, leftEntry, rightEntry, hasBuddy, joining}
+use Rattle.rules.specs.Merge.{rightStart, onRight, buddyStart, joinedDepth, buddyEntry, leftEntry, rightEntry, hasBuddy, joining, keyBuddy}
 use Rattle.rules.proofs.Keys.{first-lt, blockStart-le, width-le}
 use Rattle.rules.proofs.Joining.{buddy-inside}
 use Rattle.layout.specs.declared.place.Place.{Place}
@@ -70,7 +70,7 @@ module _ {p : Place} {a : List ℕ} (k : KeyPlace p a) where
   own = keyEntry a (p .key)
 
   -- A block that fills the directory has no buddy.
-  pub whole-directory : p .«local_depth» ≡ 0 → hasBuddy a (index (p .key) (depth a)) (keyEntry a (p .key)) ≡ false
+  pub whole-directory : p .«local_depth» ≡ 0 → keyBuddy a (p .key) ≡ false
   unfolding hasBuddy
   whole-directory e = rw (eq-eqb (localDepth (keyEntry a (p .key))) 0 (k .depth-is ∙ e))
 
@@ -109,12 +109,12 @@ module _ {p : Place} {a : List ℕ} (k : KeyPlace p a) where
           entry-here = entry-word count x (k .header-read) n ∙ ap (entryAt a (depth a)) buddy-here
 
           pub other-depth : (localDepth (word a (count + x)) ≡ p .«local_depth» → ⊥)
-              → hasBuddy a (index (p .key) (depth a)) (keyEntry a (p .key)) ≡ false
+              → keyBuddy a (p .key) ≡ false
           unfolding hasBuddy
           other-depth u =
               rw (← entry-here, k .depth-is, ne-eqb (p .«local_depth») 0 deep, ne-eqb (localDepth (word a (count + x))) (p .«local_depth») u)
 
-          has-buddy : localDepth (word a (count + x)) ≡ p .«local_depth» → hasBuddy a (index (p .key) (depth a)) (keyEntry a (p .key)) ≡ true
+          has-buddy : localDepth (word a (count + x)) ≡ p .«local_depth» → keyBuddy a (p .key) ≡ true
           unfolding hasBuddy
           has-buddy t =
               rw (← entry-here, k .depth-is, ne-eqb (p .«local_depth») 0 deep, eq-eqb (localDepth (word a (count + x))) (p .«local_depth») t)

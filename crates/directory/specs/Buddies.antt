@@ -8,10 +8,10 @@ use lib.Dec.{leb}
 use lib.ListN.{length}
 use Rattle.stores.specs.Lists.{pick}
 use Rattle.stores.specs.Store.{Store}
-use Rattle.rules.specs.Layout.{depth, segmentOf}
+use Rattle.rules.specs.Layout.{depth}
 use Rattle.rules.specs.Keys.{index, width, blockStart}
 use Rattle.rules.specs.Get.{keyEntry}
-use Rattle.rules.specs.Merge.{rightStart, joinedStart, leftEntry, rightEntry, hasBuddy, joining}
+use Rattle.rules.specs.Merge.{rightStart, joinedStart, joining, keyBuddy, leftOf, rightOf}
 use Rattle.layout.specs.declared.place.Place.{Place}
 use Rattle.directory.specs.declared.buddy.Starts.{Starts}
 use Rattle.directory.specs.declared.buddy.Pair.{Pair}
@@ -33,15 +33,15 @@ pairOf s i own other =
 
 -- The key's entry has a buddy, and the pair is what a merge on the key joins.
 pub record PairAt (pair : Pair) (p : Place) (a : List ℕ) : Type 0 where
-  pub buddy : hasBuddy a (index (p .key) (depth a)) (keyEntry a (p .key)) ≡ true
-  pub left-is : segmentOf (leftEntry a (index (p .key) (depth a)) (keyEntry a (p .key))) ≡ pair .left
-  pub right-is : segmentOf (rightEntry a (index (p .key) (depth a)) (keyEntry a (p .key))) ≡ pair .right
+  pub buddy : keyBuddy a (p .key) ≡ true
+  pub left-is : leftOf a (p .key) ≡ pair .left
+  pub right-is : rightOf a (p .key) ≡ pair .right
   pub start-is : joinedStart a (index (p .key) (depth a)) (keyEntry a (p .key)) ≡ pair .start
 
 -- What the search answers.
 abbrev pub PairedBy : Paired → Place → List ℕ → Type 0
 PairedBy (Halves pair) p a = PairAt pair p a
-PairedBy NoBuddy p a = hasBuddy a (index (p .key) (depth a)) (keyEntry a (p .key)) ≡ false
+PairedBy NoBuddy p a = keyBuddy a (p .key) ≡ false
 
 -- ---- The entries of a joined block
 

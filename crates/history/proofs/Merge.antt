@@ -14,14 +14,14 @@ use Rattle.stores.specs.Lists.{anyBelow}
 use Rattle.stores.proofs.Tests.{cases}
 use Rattle.stores.proofs.Lists.{any-at}
 use Rattle.rules.proofs.Put.{free-found}
-use Rattle.history.specs.Further.{FreeIn, rightOf}
+use Rattle.history.specs.Further.{FreeIn}
 use Rattle.replies.specs.declared.Refusal.the-variants.{NoBuddy, BothLive}
 use Rattle.replies.specs.Replies.{done, refuse, unless, tested}
 use Rattle.rules.specs.Layout.{depth, maxDepth, segments, entryAt, segmentOf, segmentAddress}
 use Rattle.rules.specs.Keys.{index, blockBits, blockStart}
 use Rattle.rules.specs.Slots.{named}
 use Rattle.rules.specs.Get.{keyEntry}
-use Rattle.rules.specs.Merge.{joinedDepth, leftEntry, rightEntry, hasBuddy, bothLive, bothLiveAt, halvesTests, mergeTests, mergingOf, merge}
+use Rattle.rules.specs.Merge.{joinedDepth, leftEntry, rightEntry, hasBuddy, bothLive, bothLiveAt, halvesTests, mergeTests, mergingOf, rightOf, keyMerging, merge}
 use Rattle.rules.proofs.Keys.{index-lt}
 use Rattle.rules.proofs.Joining.{TwoHalves, halves-same}
 use Rattle.rules.proofs.Merge.{no-buddy, both-live, both-pass, MergePassed, merge-passed, passed-halves, passed-left, passed-right}
@@ -50,7 +50,8 @@ module _ {m : Map} {g d S : ℕ} {f : ℕ → ℕ} {a : List ℕ} (inv : Inv m g
     right-low : segmentOf (rightEntry a i e) < S
     right-low = rw (shape-depth (inv .shape), shape-segments (inv .shape)) at (passed-right p)
 
-    one-side : bothLive a (segmentAddress d (segmentOf (leftEntry a i e))) a (segmentAddress d (segmentOf (rightEntry a i e))) (joinedDepth e) (blockBits g (joinedDepth e) i) ≡ false
+    one-side : bothLive a (segmentAddress d (segmentOf (leftEntry a i e))) a (segmentAddress d (segmentOf (rightEntry a i e))) (joinedDepth e)
+        (blockBits g (joinedDepth e) i) ≡ false
     one-side = rw (shape-depth (inv .shape), shape-maxDepth (inv .shape)) at (p .apart)
 
     stores-kept : PlanKept keeps m d S (record { due = mergingOf a (index key (depth a)) (keyEntry a key); reply = done [] }) a

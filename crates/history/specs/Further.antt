@@ -9,11 +9,9 @@ use Rattle.stores.specs.Written.{atFront}
 use Rattle.rules.specs.declared.Call.the-variants.{Merge, Mend, List as ListCall}
 use Rattle.replies.specs.declared.Answer.{Answer}
 use mathlib.Core.Option.{some}
-use Rattle.rules.specs.Layout.{depth, segments, segmentOf}
-use Rattle.rules.specs.Keys.{index as keyIndex}
+use Rattle.rules.specs.Layout.{depth, segments}
 use Rattle.rules.specs.Slots.{named, freeSegment}
-use Rattle.rules.specs.Get.{keyEntry}
-use Rattle.rules.specs.Merge.{rightEntry}
+use Rattle.rules.specs.Merge.{rightOf}
 use Rattle.replies.specs.Replies.{Said, done, saidBy, isRefusal}
 use Rattle.rules.specs.Listing.{records, wordsOf}
 use Rattle.rules.specs.Step.{step, Performed}
@@ -54,11 +52,7 @@ pub record FreeIn (n : ℕ) (a : List ℕ) : Type 0 where
   pub found : freeSegment a ≡ some taken
   pub not-behind : taken ≤ n
 
--- The segment of the right half for a merge on the key: document 02's b.
-abbrev pub rightOf : List ℕ → (key : ℕ) → ℕ
-rightOf a key = segmentOf (rightEntry a (keyIndex key (depth a)) (keyEntry a key))
-
--- Behind a done merge, of any store that the history rule covers, that segment is free.
+-- Behind a done merge, of any store that the history rule covers, the right half's segment is free.
 abbrev pub MergeFrees : Type 0
 MergeFrees =
     (p : Point) → CoveredPoint p → (key allowance : ℕ) (l : List ℕ) → (step (p .array) l (Merge key allowance)) .outcome .reply ≡ done []

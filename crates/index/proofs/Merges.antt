@@ -14,7 +14,7 @@ use Rattle.rules.specs.Layout.{depth, segments}
 use Rattle.rules.specs.Keys.{index}
 use Rattle.rules.specs.Get.{keyEntry}
 use Rattle.rules.specs.Put.{putTests}
-use Rattle.rules.specs.Merge.{mergeTests, mergingOf, merge}
+use Rattle.rules.specs.Merge.{mergeTests, keyMerging, merge}
 use Rattle.rules.specs.Step.{effect, step, outcomeOf}
 use Rattle.rules.proofs.Keys.{index-lt}
 use Rattle.rules.proofs.Blocks.{consistent-blocks}
@@ -68,7 +68,7 @@ module _ (a : List ℕ) (key allowance : ℕ) (r : Answer) where
     unfolding effect step merge tested
     merge-done due b m k =
         rw (tests-past tests ∙ both-pass a (index key (depth a)) (keyEntry a key) (rw (x .1) at (m .buddy)) (rw (x .1) at (m .apart)))
-        (answered-stores allowance (record { due = mergingOf a (index key (depth a)) (keyEntry a key); reply = done [] }) a r due b (rw (x .1) at (m .made)) k)
+        (answered-stores allowance (record { due = keyMerging a key; reply = done [] }) a r due b (rw (x .1) at (m .made)) k)
 
 -- What the merge of the halves has answered.
 pub answer-is : (x y : MergeAnswer) (p : Place) (allowance : ℕ) (a b : List ℕ) → MergedBy x p allowance a b → x ≡ y → MergedBy y p allowance a b

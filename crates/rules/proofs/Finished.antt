@@ -289,5 +289,6 @@ mending-is-done a key n k c t enough =
     (λ (q : ltb (slotStores a key) n ≡ false).
     let early = ltb-false (slotStores a key) n q in
     rw (within-slots p t n early)
-    (enough-mends p _ (slots-mendable p n) (length-exec (slotsMerged a (index key (depth a)) (keyEntry a key)) n a) (slots-front p n 0 (pow-pos (suc (depth a)))) k enough))
+    (enough-mends p _ (slots-mendable p n) (length-exec (slotsMerged a (index key (depth a)) (keyEntry a key)) n a)
+    (slots-front p n 0 (pow-pos (suc (depth a)))) k enough))
     (cases (ltb (slotStores a key) n))

@@ -23,7 +23,7 @@ use Rattle.rules.specs.Keys.{index, blockStart}
 use Rattle.rules.specs.Scan.{leadersValid, entriesAgree}
 use Rattle.rules.specs.Get.{keyEntry, keyTests}
 use Rattle.rules.specs.Put.{directoryTests, putTests}
-use Rattle.rules.specs.Merge.{onRight, joinedDepth, joinedBits, joinedStart, buddyEntry, leftEntry, rightEntry, leftSegment, rightSegment, liveLeft, liveRight, mergeRecord, mergeSlot, mergingSlots, joining, hasBuddy, bothLiveAt, halvesTests, mergeTests, slotsMerged, entriesJoined, mergingOf, merge}
+use Rattle.rules.specs.Merge.{onRight, joinedDepth, joinedBits, joinedStart, buddyEntry, leftEntry, rightEntry, leftSegment, rightSegment, liveLeft, liveRight, mergeRecord, mergeSlot, mergingSlots, joining, hasBuddy, bothLiveAt, halvesTests, mergeTests, slotsMerged, entriesJoined, mergingOf, keyBuddy, keyBothLive, merge}
 use Rattle.rules.proofs.Words.{header-valid, Within, key-within, value-within, within-inside, entry-from, entry-to, directories-below}
 use Rattle.rules.proofs.Keys.{index-lt, block-end}
 use Rattle.rules.proofs.Blocks.{Blocks, consistent-blocks}
@@ -127,8 +127,8 @@ pub record MergePassed (a : List ℕ) (key : ℕ) : Type 0 where
   pub tests : Passed a key
   pub dir : Blocks (depth a) (segments a) (entryAt a (depth a))
   pub own : keyEntry a key ≡ entryAt a (depth a) (index key (depth a))
-  pub buddy : hasBuddy a (index key (depth a)) (keyEntry a key) ≡ true
-  pub apart : bothLiveAt a (index key (depth a)) (keyEntry a key) ≡ false
+  pub buddy : keyBuddy a key ≡ true
+  pub apart : keyBothLive a key ≡ false
 
 pub merge-passed : (a : List ℕ) (key : ℕ) → mergeTests a key ≡ none → MergePassed a key
 unfolding mergeTests halvesTests

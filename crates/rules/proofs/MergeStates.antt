@@ -63,9 +63,10 @@ unfolding each
 mergeStates =
     -- behind state e slot 29 is live on both sides: 263 on the left, 23 on the right
     row 520 moved (M 7) (refused 15) 0 [] (names 0 1 ∷ names 1 1 ∷ []) (pages 7 16 17)
-    -- a remove makes room: eight live records of the right, two stores each, and two entries; by the put of 263, or by that of 23
+    -- a remove of 263 makes room: eight live records of the right, two stores each, and two entries; or one of 23, with seven
     ∷ row 520 (moved ++ (Remove 263 10000 ∷ [])) (Mend 10000) (done []) 0 roomMade [] []
-    ∷ row 520 (moved ++ (Remove 263 10000 ∷ [])) (M 7) (done []) 18 (stands 66 23 ∷ stands 67 230 ∷ []) (names 0 0 ∷ names 0 0 ∷ []) (missing 263 ∷ pages 7 16 16)
+    ∷ row 520 (moved ++ (Remove 263 10000 ∷ [])) (M 7) (done []) 18 (stands 66 23 ∷ stands 67 230 ∷ [])
+    (names 0 0 ∷ names 0 0 ∷ []) (missing 263 ∷ pages 7 16 16)
     ∷ row 520 (moved ++ (Remove 23 10000 ∷ [])) (M 7) (done []) 16 (stands 66 263 ∷ stands 67 2630 ∷ []) (names 0 0 ∷ names 0 0 ∷ [])
     (missing 23 ∷ page 7 ∷ pages 39 16 15)
     -- the key is on the left, on the right, or not stored
@@ -98,14 +99,18 @@ mergeStates =
     ∷ behindCut 18 (M 7) (refused 14) 0 (names 0 0 ∷ names 0 0 ∷ []) []
     -- 14 where the buddy is deeper, also with a slot live on both sides; the two deeper blocks merge, by the key of either
     ∷ damaged deeper (M 7) (refused 14) 0 [] (names 0 1 ∷ names 0 1 ∷ names 1 2 ∷ names 2 2 ∷ []) []
-    ∷ damaged deeper (M 23) (done []) 4 (stands 194 55 ∷ stands 195 550 ∷ []) (names 0 1 ∷ names 0 1 ∷ names 1 1 ∷ names 1 1 ∷ []) (page 7 ∷ page 23 ∷ page 55 ∷ [])
-    ∷ damaged deeper (M 55) (done []) 4 (stands 194 55 ∷ stands 195 550 ∷ []) (names 0 1 ∷ names 0 1 ∷ names 1 1 ∷ names 1 1 ∷ []) (page 7 ∷ page 23 ∷ page 55 ∷ [])
+    ∷ damaged deeper (M 23) (done []) 4 (stands 194 55 ∷ stands 195 550 ∷ [])
+    (names 0 1 ∷ names 0 1 ∷ names 1 1 ∷ names 1 1 ∷ []) (page 7 ∷ page 23 ∷ page 55 ∷ [])
+    ∷ damaged deeper (M 55) (done []) 4 (stands 194 55 ∷ stands 195 550 ∷ [])
+    (names 0 1 ∷ names 0 1 ∷ names 1 1 ∷ names 1 1 ∷ []) (page 7 ∷ page 23 ∷ page 55 ∷ [])
     -- a slot that is live on one side alone is no hindrance; the last slot, live on both sides, is
     ∷ damaged (present 1 ∷ entry₁ 0 0 1 ∷ entry₁ 1 1 1 ∷ slotIn 0 28 7) (M 7) (done []) 2 (stands 64 7 ∷ []) (names 0 0 ∷ names 0 0 ∷ []) (page 7 ∷ [])
-    ∷ damaged (present 1 ∷ entry₁ 0 0 1 ∷ entry₁ 1 1 1 ∷ slotIn 1 28 23) (M 7) (done []) 4 (stands 64 23 ∷ stands 65 230 ∷ []) (names 0 0 ∷ names 0 0 ∷ []) (page 23 ∷ [])
+    ∷ damaged (present 1 ∷ entry₁ 0 0 1 ∷ entry₁ 1 1 1 ∷ slotIn 1 28 23) (M 7) (done []) 4 (stands 64 23 ∷ stands 65 230 ∷ [])
+    (names 0 0 ∷ names 0 0 ∷ []) (page 23 ∷ [])
     ∷ damaged (present 1 ∷ entry₁ 0 0 1 ∷ entry₁ 1 1 1 ∷ slotIn 0 63 15 ++ slotIn 1 63 31) (M 7) (refused 15) 0 [] [] (page 15 ∷ page 31 ∷ [])
     -- stale keys of the left go where no live record takes their slot, those of the right do not come along: 23, 55, 71 and 39 stay absent
-    ∷ damaged stale (M 7) (done []) 7 (stands 64 7 ∷ stands 66 0 ∷ stands 68 87 ∷ stands 69 870 ∷ stands 70 0 ∷ stands 71 0 ∷ stands 72 119 ∷ stands 73 1190 ∷ []) (names 0 0 ∷ names 0 0 ∷ [])
+    ∷ damaged stale (M 7) (done []) 7
+    (stands 64 7 ∷ stands 66 0 ∷ stands 68 87 ∷ stands 69 870 ∷ stands 70 0 ∷ stands 71 0 ∷ stands 72 119 ∷ stands 73 1190 ∷ []) (names 0 0 ∷ names 0 0 ∷ [])
     (page 7 ∷ page 87 ∷ page 119 ∷ missing 23 ∷ missing 55 ∷ missing 71 ∷ missing 39 ∷ [])
     ∷ damaged stale (Merge 7 1) (refused 7) 1 (stands 66 0 ∷ stands 67 230 ∷ stands 69 550 ∷ []) [] []
     -- four entries, from left to right, and the mend behind each cut
@@ -117,9 +122,11 @@ mergeStates =
     ∷ wideCut 4 2 (names 0 0 ∷ names 0 0 ∷ names 0 0 ∷ names 0 0 ∷ [])
     ∷ wideCut 5 1 (names 0 0 ∷ names 0 0 ∷ names 0 0 ∷ names 0 0 ∷ [])
     -- the left segment stays, whatever the numbers are: segment 3 takes the records of segment 1
-    ∷ damaged (present 1 ∷ entry₁ 0 3 1 ∷ entry₁ 1 1 1 ∷ slotIn 1 28 23) (M 23) (done []) 4 (stands 448 23 ∷ stands 449 230 ∷ stands 192 23 ∷ []) (names 3 0 ∷ names 3 0 ∷ []) (page 23 ∷ [])
+    ∷ damaged (present 1 ∷ entry₁ 0 3 1 ∷ entry₁ 1 1 1 ∷ slotIn 1 28 23) (M 23) (done []) 4 (stands 448 23 ∷ stands 449 230 ∷ stands 192 23 ∷ [])
+    (names 3 0 ∷ names 3 0 ∷ []) (page 23 ∷ [])
     -- one segment on both sides, in a damaged array: value and key are stored where they stand, the stale key is cleared
-    ∷ damaged oneSegment (M 7) (done []) 5 (stands 64 7 ∷ stands 66 39 ∷ stands 67 390 ∷ stands 68 0 ∷ []) (names 0 1 ∷ names 0 1 ∷ names 1 2 ∷ names 2 2 ∷ []) (page 7 ∷ page 39 ∷ [])
+    ∷ damaged oneSegment (M 7) (done []) 5 (stands 64 7 ∷ stands 66 39 ∷ stands 67 390 ∷ stands 68 0 ∷ [])
+    (names 0 1 ∷ names 0 1 ∷ names 1 2 ∷ names 2 2 ∷ []) (page 7 ∷ page 39 ∷ [])
     ∷ damaged oneSegment (Merge 39 2) (refused 7) 2 (stands 68 23 ∷ []) (names 0 2 ∷ names 0 2 ∷ []) []
     -- 1, 2, 3 and 4 come first, in that order: 4 also where L is 0
     ∷ damaged (store 0 0 ∷ []) (M 0) (refused 1) 0 [] [] []

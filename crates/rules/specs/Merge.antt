@@ -35,10 +35,11 @@ buddyStart g M i = pick (onRight g M i) (blockStart g M i) (rightStart g M i)
 unfoldable pub joinedDepth : (e : ℕ) → ℕ
 joinedDepth e = localDepth e - 1
 
--- The joined block's bits, and its first index.
+-- The joined block's bits.
 abbrev pub joinedBits : List ℕ → (i e : ℕ) → ℕ
 joinedBits a i e = blockBits (depth a) (joinedDepth e) i
 
+-- Its first index.
 abbrev pub joinedStart : List ℕ → (i e : ℕ) → ℕ
 joinedStart a i e = blockStart (depth a) (joinedDepth e) i
 
@@ -55,19 +56,21 @@ leftEntry a i e = pick (onRight (depth a) (joinedDepth e) i) (buddyEntry a i e) 
 unfoldable pub rightEntry : List ℕ → (i e : ℕ) → ℕ
 rightEntry a i e = pick (onRight (depth a) (joinedDepth e) i) e (buddyEntry a i e)
 
--- The addresses of their segments: document 02's a and b.
+-- Where the left half's segment stands: document 02's a.
 abbrev pub leftSegment : List ℕ → (i e : ℕ) → ℕ
 leftSegment a i e = segmentAddress (maxDepth a) (segmentOf (leftEntry a i e))
 
+-- Where the right half's segment stands: document 02's b.
 abbrev pub rightSegment : List ℕ → (i e : ℕ) → ℕ
 rightSegment a i e = segmentAddress (maxDepth a) (segmentOf (rightEntry a i e))
 
 -- ---- The slots
 
--- A key is live in the left half, and in the right half, of the joined block with these bits.
+-- A key is live in the left half of the joined block with these bits.
 abbrev pub liveLeft : (M bits key : ℕ) → Bool
 liveLeft M bits key = live (suc M) (2 * bits) key
 
+-- And in its right half.
 abbrev pub liveRight : (M bits key : ℕ) → Bool
 liveRight M bits key = live (suc M) (2 * bits + 1) key
 
@@ -84,6 +87,7 @@ mergeRecord left M bits j own key value =
     pick (liveRight M bits key) (store (valueAddress left j) value ∷ store (keyAddress left j) key ∷ [])
     (pick (not (eqb own 0) && not (liveLeft M bits own)) (store (keyAddress left j) 0 ∷ []) [])
 
+-- The stores for slot j of the two segments.
 unfoldable pub mergeSlot : (x : List ℕ) (left : ℕ) (y : List ℕ) (right M bits j : ℕ) → List Store
 mergeSlot x left y right M bits j = mergeRecord left M bits j (keyAt x left j) (keyAt y right j) (valueAt y right j)
 
@@ -115,10 +119,11 @@ halvesTests a i e = unless (hasBuddy a i e) NoBuddy (unless (not (bothLiveAt a i
 unfoldable pub mergeTests : List ℕ → (key : ℕ) → Option Refusal
 mergeTests a key = keyTests a key (directoryTests a (halvesTests a (index key (depth a)) (keyEntry a key)))
 
--- The stores of the slots, and those of the entries, for the entry e at index i.
+-- The stores of the slots, for the entry e at index i.
 abbrev pub slotsMerged : List ℕ → (i e : ℕ) → List Store
 slotsMerged a i e = mergingSlots a (leftSegment a i e) a (rightSegment a i e) (joinedDepth e) (joinedBits a i e)
 
+-- Those of the entries.
 abbrev pub entriesJoined : List ℕ → (i e : ℕ) → List Store
 entriesJoined a i e = joining (depth a) (joinedDepth e) (joinedStart a i e) (segmentOf (leftEntry a i e))
 
@@ -126,6 +131,28 @@ entriesJoined a i e = joining (depth a) (joinedDepth e) (joinedStart a i e) (seg
 unfoldable pub mergingOf : List ℕ → (i e : ℕ) → List Store
 mergingOf a i e = slotsMerged a i e ++ entriesJoined a i e
 
+-- ---- The same for a key, by its own entry
+
+-- It has a buddy of the same depth.
+abbrev pub keyBuddy : List ℕ → (key : ℕ) → Bool
+keyBuddy a key = hasBuddy a (index key (depth a)) (keyEntry a key)
+
+-- Some slot is live on both sides.
+abbrev pub keyBothLive : List ℕ → (key : ℕ) → Bool
+keyBothLive a key = bothLiveAt a (index key (depth a)) (keyEntry a key)
+
+-- The number of the left half's segment: document 02's a.
+abbrev pub leftOf : List ℕ → (key : ℕ) → ℕ
+leftOf a key = segmentOf (leftEntry a (index key (depth a)) (keyEntry a key))
+
+-- The number of the right half's: document 02's b.
+abbrev pub rightOf : List ℕ → (key : ℕ) → ℕ
+rightOf a key = segmentOf (rightEntry a (index key (depth a)) (keyEntry a key))
+
+-- All stores.
+abbrev pub keyMerging : List ℕ → (key : ℕ) → List Store
+keyMerging a key = mergingOf a (index key (depth a)) (keyEntry a key)
+
 -- The plan of a merge.
 unfoldable pub merge : List ℕ → (key : ℕ) → Plan Said
-merge a key = tested (mergeTests a key) (record { due = mergingOf a (index key (depth a)) (keyEntry a key); reply = done [] })
+merge a key = tested (mergeTests a key) (record { due = keyMerging a key; reply = done [] })

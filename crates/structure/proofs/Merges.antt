@@ -18,7 +18,7 @@ use Rattle.stores.proofs.Loops.{executed-length}
 use Rattle.rules.specs.Layout.{depth, segments, segmentAddress, localDepth, keyAddress, valueAddress, keyAt}
 use Rattle.rules.specs.Keys.{firstBits, index, blockBits, blockStart}
 use Rattle.rules.specs.Get.{keyEntry}
-use Rattle.rules.specs.Merge.{joinedDepth, buddyEntry, liveLeft, liveRight, bothLive, mergeRecord, mergeSlot, mergingSlots, hasBuddy, bothLiveAt, slotsMerged, entriesJoined, mergingOf}
+use Rattle.rules.specs.Merge.{joinedDepth, buddyEntry, liveLeft, liveRight, bothLive, mergeRecord, mergeSlot, mergingSlots, hasBuddy, slotsMerged, entriesJoined, mergingOf, keyBothLive, keyMerging}
 use Rattle.rules.proofs.Keys.{index-lt, index-shift, block-end}
 use Rattle.rules.proofs.Merge.{record-every, length-slots}
 use Rattle.layout.specs.declared.place.Place.{Place}
@@ -33,7 +33,7 @@ use Rattle.directory.specs.declared.buddy.Paired.the-variants.{Halves, NoBuddy}
 use Rattle.directory.specs.Buddies.{PairAt, PairedBy, Joinable, joiningOf}
 use Rattle.segment.specs.Slot.{segmentIn}
 use Rattle.segment.proofs.Parts.{span, part-key, part-value}
-use Rattle.structure.specs.Merges.{Mergeable, bothLiveIn, slotsIn, PairFits, mergingAt, PairReady, HalvesBelow, keyMerging}
+use Rattle.structure.specs.Merges.{Mergeable, bothLiveIn, slotsIn, PairFits, mergingAt, PairReady, HalvesBelow}
 use Rattle.structure.proofs.Copies.{executed-part, shifted-each}
 
 -- ---- The slots, in a part
@@ -142,7 +142,7 @@ module _ {p : Place} {pair : Pair} {a : List ℕ} (r : PairReady p pair a) where
   slots-are : slotsMerged a (index (p .key) (depth a)) (keyEntry a (p .key)) ≡ slotsIn a (mergingAt p pair)
   slots-are = rw (r .pair-at .left-is, r .pair-at .right-is, joined-depth, joined-bits, r .place .header-read .max-depth-read)
 
-  pub both-are : bothLiveAt a (index (p .key) (depth a)) (keyEntry a (p .key)) ≡ bothLiveIn a (mergingAt p pair)
+  pub both-are : keyBothLive a (p .key) ≡ bothLiveIn a (mergingAt p pair)
   both-are = rw (r .pair-at .left-is, r .pair-at .right-is, joined-depth, joined-bits, r .place .header-read .max-depth-read)
 
   entries-are : entriesJoined a (index (p .key) (depth a)) (keyEntry a (p .key)) ≡ joiningOf (blockFor p pair)
@@ -168,7 +168,7 @@ module _ {p : Place} {pair : Pair} {a : List ℕ} (r : PairReady p pair a) where
 
   pub merge-made : (allowed due : ℕ) (b : List ℕ) (due′ : ℕ) (b′ : List ℕ) → Executed (slotsIn a (mergingAt p pair)) allowed 0 a due b
       → Executed (joiningOf (blockFor p pair)) allowed due b due′ b′
-      → Executed (keyMerging p a) allowed 0 a due′ b′
+      → Executed (keyMerging a (p .key)) allowed 0 a due′ b′
   unfolding mergingOf
   merge-made allowed due b due′ b′ slots entries =
       rw (slots-are, entries-are)

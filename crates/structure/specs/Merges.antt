@@ -7,10 +7,8 @@ use mathlib.Core.List.{List}
 use lib.ListN.{length}
 use Rattle.stores.specs.Store.{Store}
 use Rattle.stores.specs.Executed.{Executed}
-use Rattle.rules.specs.Layout.{depth, segments, segmentOf, segmentAddress}
-use Rattle.rules.specs.Keys.{index}
-use Rattle.rules.specs.Get.{keyEntry}
-use Rattle.rules.specs.Merge.{leftEntry, rightEntry, bothLive, mergingSlots, hasBuddy, bothLiveAt, mergingOf}
+use Rattle.rules.specs.Layout.{segments, segmentAddress}
+use Rattle.rules.specs.Merge.{bothLive, mergingSlots, keyBuddy, keyBothLive, leftOf, rightOf, keyMerging}
 use Rattle.layout.specs.declared.place.Place.{Place}
 use Rattle.layout.specs.declared.key.Block.{Block}
 use Rattle.layout.specs.Blocks.{shared}
@@ -62,28 +60,18 @@ pub record PairReady (p : Place) (pair : Pair) (a : List ℕ) : Type 0 where
   pub left-below : pair .left < p .header .segments
   pub right-below : pair .right < p .header .segments
 
--- All stores of a merge on the key.
-abbrev pub keyMerging : Place → List ℕ → List Store
-keyMerging p a = mergingOf a (index (p .key) (depth a)) (keyEntry a (p .key))
-
 -- Where the key's entry has a buddy, both entries name segments below S.
 abbrev pub HalvesBelow : Place → List ℕ → Type 0
-HalvesBelow p a =
-    hasBuddy a (index (p .key) (depth a)) (keyEntry a (p .key)) ≡ true
-    → (segmentOf (leftEntry a (index (p .key) (depth a)) (keyEntry a (p .key))) < segments a)
-    × (segmentOf (rightEntry a (index (p .key) (depth a)) (keyEntry a (p .key))) < segments a)
+HalvesBelow p a = keyBuddy a (p .key) ≡ true → (leftOf a (p .key) < segments a) × (rightOf a (p .key) < segments a)
 
 -- The tests of the two halves have passed, and of the stores of the merge those allowed were made: a became b.
 pub record MergedTo (p : Place) (allowed due : ℕ) (a b : List ℕ) : Type 0 where
-  pub buddy : hasBuddy a (index (p .key) (depth a)) (keyEntry a (p .key)) ≡ true
-  pub apart : bothLiveAt a (index (p .key) (depth a)) (keyEntry a (p .key)) ≡ false
-  pub made : Executed (keyMerging p a) allowed 0 a due b
+  pub buddy : keyBuddy a (p .key) ≡ true
+  pub apart : keyBothLive a (p .key) ≡ false
+  pub made : Executed (keyMerging a (p .key)) allowed 0 a due b
 
 -- What a merge answers, and leaves as b. A refusal makes no store.
 abbrev pub MergedBy : MergeAnswer → Place → (allowed : ℕ) → (a b : List ℕ) → Type 0
 MergedBy (Due due) p allowed a b = MergedTo p allowed due a b
-MergedBy NoBuddy p allowed a b = (hasBuddy a (index (p .key) (depth a)) (keyEntry a (p .key)) ≡ false) × (b ≡ a)
-MergedBy BothLive p allowed a b =
-    (hasBuddy a (index (p .key) (depth a)) (keyEntry a (p .key)) ≡ true)
-    × (bothLiveAt a (index (p .key) (depth a)) (keyEntry a (p .key)) ≡ true)
-    × (b ≡ a)
+MergedBy NoBuddy p allowed a b = (keyBuddy a (p .key) ≡ false) × (b ≡ a)
+MergedBy BothLive p allowed a b = (keyBuddy a (p .key) ≡ true) × (keyBothLive a (p .key) ≡ true) × (b ≡ a)

@@ -13,8 +13,9 @@ use segment::merge::merge_records;
 use segment::merge::some_both_live;
 ghost use mathlib.Core.Path.{_≡_};
 ghost use Rattle.stores.specs.Executed.{Executed};
+ghost use Rattle.rules.specs.Merge.{keyMerging};
 ghost use Rattle.layout.specs.Places.{KeyPlace};
-ghost use Rattle.structure.specs.Merges.{bothLiveIn, slotsIn, Mergeable, PairFits, mergingAt, PairReady, keyMerging, HalvesBelow, MergedBy};
+ghost use Rattle.structure.specs.Merges.{bothLiveIn, slotsIn, Mergeable, PairFits, mergingAt, PairReady, HalvesBelow, MergedBy};
 
 // What a merge answers: the number of stores due, or what its tests of the two halves refuse.
 pub enum MergeAnswer {
@@ -87,7 +88,7 @@ fn merge_slots(words: &mut [u64], merging: Merging, allowed: u32) -> u32
 // block. Answers the number of stores due.
 fn join_halves(words: &mut [u64], place: Place, pair: Pair, allowed: u32) -> u32
     requires { ⌜ PairReady place pair (now words) ⌝ }
-    ensures { λ r. ⌜ Executed (keyMerging place (now (words .entry))) allowed 0 (now (words .entry)) r (now (words .exit)) ⌝ }
+    ensures { λ r. ⌜ Executed (keyMerging (now (words .entry)) (place .key)) allowed 0 (now (words .entry)) r (now (words .exit)) ⌝ }
 {
     let merging = merging_of(place, pair);
     let due = merge_slots(words, merging, allowed);
