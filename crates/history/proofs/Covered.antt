@@ -7,7 +7,6 @@ use mathlib.Core.List.{List, []}
 use mathlib.Core.Option.{none}
 use mathlib.Core.Logic.{⊎-elim}
 use Prim.Native.Nat.{ℕ}
-use native.Mathlib.Omega.{arith}
 use Rattle.replies.specs.Replies.{done, changed}
 use Rattle.rules.specs.Merge.{mergeTests, merge}
 use Rattle.rules.specs.Get.{get}

@@ -1,24 +1,23 @@
 -- A merge on a key but 0 keeps the map under every allowance; done, it frees the right half's segment.
 -- Assumes nothing.
 use mathlib.Core.Path.{_≡_, refl, sym, ap, _∙_}
-use mathlib.Core.Bool.{true, false, not}
+use mathlib.Core.Bool.{true, false}
 use mathlib.Core.List.{List, []}
-use mathlib.Core.Option.{none, some}
+use mathlib.Core.Option.{none}
 use mathlib.Core.Logic.{⊎-elim}
 use Prim.Native.Nat.{ℕ, _^_, _<_}
 use borrow.Author.Tests.{eqb-true}
 use lib.Dec.{eqb}
 use Rattle.stores.specs.Store.{apply}
-use Rattle.stores.specs.Plan.{reply-only}
 use Rattle.stores.specs.Lists.{anyBelow}
 use Rattle.stores.proofs.Tests.{cases}
 use Rattle.stores.proofs.Lists.{any-at}
 use Rattle.rules.proofs.Put.{free-found}
 use Rattle.history.specs.Further.{FreeIn}
 use Rattle.replies.specs.declared.Refusal.the-variants.{NoBuddy, BothLive}
-use Rattle.replies.specs.Replies.{done, refuse, unless, tested}
-use Rattle.rules.specs.Layout.{depth, maxDepth, segments, entryAt, segmentOf, segmentAddress}
-use Rattle.rules.specs.Keys.{index, blockBits, blockStart}
+use Rattle.replies.specs.Replies.{done, tested}
+use Rattle.rules.specs.Layout.{depth, segments, entryAt, segmentOf, segmentAddress}
+use Rattle.rules.specs.Keys.{index, blockBits}
 use Rattle.rules.specs.Slots.{named}
 use Rattle.rules.specs.Get.{keyEntry}
 use Rattle.rules.specs.Merge.{joinedDepth, leftEntry, rightEntry, hasBuddy, bothLive, bothLiveAt, halvesTests, mergeTests, mergingOf, rightOf, keyMerging, merge}
@@ -54,7 +53,7 @@ module _ {m : Map} {g d S : ℕ} {f : ℕ → ℕ} {a : List ℕ} (inv : Inv m g
         (blockBits g (joinedDepth e) i) ≡ false
     one-side = rw (shape-depth (inv .shape), shape-maxDepth (inv .shape)) at (p .apart)
 
-    stores-kept : PlanKept keeps m d S (record { due = mergingOf a (index key (depth a)) (keyEntry a key); reply = done [] }) a
+    stores-kept : PlanKept keeps m d S (record { due = keyMerging a key; reply = done [] }) a
     unfolding mergingOf
     stores-kept =
         rw (shape-depth (inv .shape), shape-maxDepth (inv .shape))
@@ -62,7 +61,7 @@ module _ {m : Map} {g d S : ℕ} {f : ℕ → ℕ} {a : List ℕ} (inv : Inv m g
 
     -- The array that all its stores leave, and what no entry of it names.
     abbrev merged : List ℕ
-    merged = apply (mergingOf a (index key (depth a)) (keyEntry a key)) a
+    merged = apply (keyMerging a key) a
 
     shape-after : Shape g d S merged
     unfolding mergingOf

@@ -3,7 +3,7 @@
 -- Assumes nothing.
 use mathlib.Core.Path.{_≡_, refl, sym, ap, _∙_}
 use mathlib.Core.Bool.{Bool, true, false, true≢false, not, _&&_}
-use mathlib.Core.List.{List, [], _∷_, _++_, List·Memᴰ}
+use mathlib.Core.List.{List, [], _++_, List·Memᴰ}
 use mathlib.Core.Logic.{_⊎_, inl, inr, ⊎-elim}
 use Prim.Native.Nat.{ℕ, zero, suc, _+_, _*_, _^_, _≤_, _<_}
 use native.Mathlib.Nat.{add-zero}
@@ -11,27 +11,24 @@ use native.Mathlib.Omega.{arith}
 use borrow.Author.Tests.{eqb-true, eqb-false, not-true}
 use lib.Dec.{eqb}
 use lib.ListN.{length, take, set, length-set}
-use Rattle.stores.specs.Lists.{pick}
 use Rattle.stores.specs.Store.{Store, word, store, apply, exec, Every}
-use Rattle.stores.specs.Plan.{Plan}
 use Rattle.stores.proofs.Tests.{cases, and-true, and-right}
 use Rattle.stores.proofs.Lists.{any-true, every-each, every-take, every-map}
 use Rattle.stores.proofs.Stores.{apply-append, length-apply, length-exec, exec-all, exec-none, word-set-same, word-set-other, word-elsewhere, word-keeps}
 use Rattle.stores.proofs.Prefixes.{Always, always-whole, exec-elsewhere}
-use Rattle.replies.specs.Replies.{Said, done}
-use Rattle.rules.specs.Layout.{wordsFor, entryAddress, entryAt, segmentOf, localDepth, segmentAddress, keyAddress, valueAddress, keyAt, valueAt}
+use Rattle.replies.specs.Replies.{done}
+use Rattle.rules.specs.Layout.{entryAddress, entryAt, segmentOf, localDepth, segmentAddress, keyAddress, valueAddress, keyAt, valueAt}
 use Rattle.rules.specs.Keys.{bit, width, blockBits, blockStart, live, window}
 use Rattle.rules.specs.Merge.{rightStart, liveLeft, liveRight, bothLive, mergeRecord, mergeSlot, mergingSlots, joining}
 use Rattle.rules.proofs.Words.{Within, key-within, value-within, within-inside, entry-inside, entry-positive, directories-below}
-use Rattle.rules.proofs.Keys.{bit-lt, live-nonzero, live-index, live-stale, live-empty, live-half, window-lt, width-pos, block-end}
+use Rattle.rules.proofs.Keys.{bit-lt, live-index, live-stale, live-empty, live-half, window-lt, width-pos, block-end}
 use Rattle.rules.proofs.SlotStores.{InSlot, key-in-slot, value-in-slot, one-slot, slot-alone}
-use Rattle.rules.proofs.Blocks.{bitsAt, halvedDirectory}
-use Rattle.rules.proofs.Updating.{same-start, BlockEntry}
+use Rattle.rules.proofs.Updating.{same-start}
 use Rattle.rules.proofs.Joining.{TwoHalves, bits-left, bits-right, joinedDirectory, joined-out, joined-segment, joined-depth, halved-again, joining-elsewhere, begins-joined, either-joined, all-joined, length-joining}
 use Rattle.rules.proofs.Merge.{record-every, slots-within}
 use Rattle.runs.specs.Map.{Map, keeps, fed}
 use Rattle.history.proofs.Holds.{Holds, holds-same}
-use Rattle.history.proofs.Invariant.{Shape, Directory, Inv, Recovered, LiveAt, baseAt, SegmentSame, BlockChanged, segments-fit, same-key, same-value, block-changed, block-recovered}
+use Rattle.history.proofs.Invariant.{Shape, Directory, Inv, Recovered, baseAt, SegmentSame, BlockChanged, segments-fit, same-key, same-value, block-changed, block-recovered}
 use Rattle.history.proofs.Kept.{Kept, Whole}
 use Rattle.history.proofs.Changes.{slots-unseen}
 use Rattle.history.proofs.Either.{Serves, Between, old-inv}

@@ -15,7 +15,7 @@ use Rattle.stores.specs.Store.{Store, word, store, apply, exec, Every, writes}
 use Rattle.stores.proofs.Tests.{cases}
 use Rattle.stores.proofs.Lists.{each-same, length-each-le, every-each, every-take, every-map, any-true}
 use Rattle.stores.proofs.Stores.{length-apply, word-elsewhere, word-apply, writes-each}
-use Rattle.replies.specs.Replies.{done, unless, tested}
+use Rattle.replies.specs.Replies.{done, unless}
 use Rattle.replies.proofs.Outcomes.{changed-complete, tested-none}
 use Rattle.rules.specs.declared.Call.the-variants.{Mend}
 use Rattle.rules.specs.Layout.{depth, segments, validHeader, entryAddress, entryAt, localDepth}

@@ -10,7 +10,6 @@ use Rattle.stores.specs.Executed.{Executed}
 use Rattle.rules.specs.Layout.{segments, segmentAddress}
 use Rattle.rules.specs.Merge.{bothLive, mergingSlots, keyBuddy, keyBothLive, leftOf, rightOf, keyMerging}
 use Rattle.layout.specs.declared.place.Place.{Place}
-use Rattle.layout.specs.declared.key.Block.{Block}
 use Rattle.layout.specs.Blocks.{shared}
 use Rattle.layout.specs.Places.{KeyPlace}
 use Rattle.directory.specs.declared.buddy.Pair.{Pair}

@@ -4,11 +4,11 @@ use Prim.Native.Nat.{_+_, _*_}
 use borrow.Author.Needs.{needs}
 use native.Mathlib.Nat.{add-zero}
 use mathlib.Core.Path.{_≡_, sym, _∙_}
-use mathlib.Core.Bool.{true, false}
+use mathlib.Core.Bool.{true}
 use mathlib.Core.List.{[], _∷_}
 use Rattle.stores.specs.Store.{store}
 use Rattle.stores.proofs.Stores.{executed-none, executed-append}
-use Rattle.rules.specs.Merge.{liveLeft, liveRight}
+use Rattle.rules.specs.Merge.{liveRight}
 use Rattle.layout.specs.Blocks.{shared}
 use Rattle.segment.proofs.Merges.{merged-moved, merged-empty, merged-own, merged-cleared}
 use Rattle.segment.proofs.merge.merge_slot.Statement.{statement}
