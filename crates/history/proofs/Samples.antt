@@ -62,12 +62,13 @@ longRun =
 
 -- Behind the split of 279 segment 0 keeps a stale record of page 23. Page 23 is removed; then a merge that is refused with 15, since 7 and
 -- 279 stand in one slot; one that is cut before its first entry, and mended; one that is cut behind it, and mended by a cut mend and a done
--- one; merges refused with 14 and 2; and a put that splits again, with the pages asked for in between.
+-- one; merges refused with 14 and 2; a put that splits again; and a merge that is done. Pages are asked for in between.
 abbrev pub mergeRun : List Call
 mergeRun =
     sixteen
     ++ (Put 279 5 1000 ∷ Remove 23 1 ∷ Merge 7 1000 ∷ Remove 7 1 ∷ Merge 39 17 ∷ Mend 0 ∷ Get 55 ∷ Merge 39 17 ∷ Mend 0 ∷ Mend 1 ∷ Get 23 ∷ Get 55
-    ∷ Get 279 ∷ Merge 39 1000 ∷ Merge 0 1000 ∷ Put 7 8 2 ∷ Put 263 6 1000 ∷ Get 23 ∷ Get 263 ∷ ListCall ∷ [])
+    ∷ Get 279 ∷ Merge 39 1000 ∷ Merge 0 1000 ∷ Put 7 8 2 ∷ Put 263 6 1000 ∷ Get 23 ∷ Get 263 ∷ ListCall ∷ Remove 263 1 ∷ Merge 39 1000 ∷ Get 39
+    ∷ Get 55 ∷ [])
 
 pub samples : List Sample
 samples =
