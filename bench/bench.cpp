@@ -197,25 +197,51 @@ void fill_pages(benchmark::State &state) {
     }
 }
 
-// A put that splits, on an index of the cabinet's size in which every window is nearly full.
-template <class Peer>
-void put_with_split(benchmark::State &state) {
-    Peer peer;
-    Words before;
-    word page = 1;
-    for (; page < in_use; page++) peer.put(page, place(page));
-    for (;; page++) {
-        before = peer.words;
-        peer.put(page, place(page));
-        if (peer.stores > 2) break;
-    }
+// One call, each time on the words that stand there now.
+template <class Peer, class Call>
+void again(benchmark::State &state, Peer &peer, Call call) {
+    Words before = peer.words;
     for (auto _ : state) {
         state.PauseTiming();
         peer.words = before;
         state.ResumeTiming();
-        benchmark::DoNotOptimize(peer.put(page, place(page)));
+        benchmark::DoNotOptimize(call());
     }
     state.counters["stores"] = peer.stores;
+}
+
+// Fills an index of the cabinet's size to the first put behind the pages in use that splits; answers its page, with the
+// words as they are before it.
+template <class Peer>
+word fill_to_split(Peer &peer) {
+    word page = 1;
+    for (; page < in_use; page++) peer.put(page, place(page));
+    for (;; page++) {
+        Words before = peer.words;
+        peer.put(page, place(page));
+        if (peer.stores <= 2) continue;
+        peer.words = before;
+        return page;
+    }
+}
+
+// A put that splits, on an index of the cabinet's size in which every window is nearly full.
+template <class Peer>
+void put_with_split(benchmark::State &state) {
+    Peer peer;
+    word page = fill_to_split(peer);
+    again(state, peer, [&] { return peer.put(page, place(page)); });
+}
+
+// The merge of that split's two blocks, once the page is removed.
+template <class Peer>
+void merge(benchmark::State &state) {
+    Peer peer;
+    word page = fill_to_split(peer);
+    peer.put(page, place(page));
+    peer.remove(page);
+    again(state, peer, [&] { return peer.merge(page); });
+    must(peer.stores > 2, "merge");
 }
 
 // The put with the most stores: D = 12, S = 13.
@@ -223,14 +249,19 @@ template <class Peer>
 void worst_put(benchmark::State &state) {
     Peer peer(12, 13);
     for (word key : twin::before_worst) peer.put(key, 1);
-    Words before = peer.words;
-    for (auto _ : state) {
-        state.PauseTiming();
-        peer.words = before;
-        state.ResumeTiming();
-        benchmark::DoNotOptimize(peer.put(twin::worst_key, 1));
-    }
-    state.counters["stores"] = peer.stores;
+    again(state, peer, [&] { return peer.put(twin::worst_key, 1); });
+}
+
+// The merge with the most stores: behind that put and the remove of its key, the last of twelve merges.
+template <class Peer>
+void worst_merge(benchmark::State &state) {
+    Peer peer(12, 13);
+    for (word key : twin::before_worst) peer.put(key, 1);
+    peer.put(twin::worst_key, 1);
+    peer.remove(twin::worst_key);
+    for (int depth = 12; depth > 1; depth--) must(peer.merge(twin::worst_key) == 0, "merge");
+    again(state, peer, [&] { return peer.merge(twin::worst_key); });
+    must(peer.stores == 4224, "the merge with the most stores");
 }
 
 // The put at which the old table is copied, with as many pages as half a cabinet has.
@@ -272,6 +303,8 @@ void add_scheme() {
     add<Peer>("mend", mend<Peer>);
     add<Peer>("put with a split", put_with_split<Peer>);
     add<Peer>("worst put", worst_put<Peer>);
+    add<Peer>("merge", merge<Peer>);
+    add<Peer>("worst merge", worst_merge<Peer>);
     add<Peer>("print of a full year", print_year<Peer>);
     for (int depth = 0; depth <= 12; depth++) {
         add<Peer>("get at depth", get_at_depth<Peer>)->Arg(depth);

@@ -24,9 +24,10 @@ using word = std::uint64_t;
 using Words = std::vector<word>;
 using Bytes = std::vector<std::uint8_t>;
 
-// The twin's print: how many bytes it has written. It is compiled apart (twin_print.cpp), since with it beside them
-// the compiler arranges the twin's other calls in another way.
+// The twin's print, which answers how many bytes it has written, and its merge. They are compiled apart
+// (twin_apart.cpp): beside the twin's other calls the compiler would arrange those in another way.
 word twin_print(const word *words, std::size_t length, word year, std::uint8_t *buffer, std::size_t room);
+twin::Answer twin_merge(word *words, std::size_t length, word key);
 
 constexpr std::uint32_t all = 0xffffffff;
 // The cabinet: 4 MiB of words, D = 12, S = 4,032.
@@ -71,6 +72,11 @@ class Ours {
     void remove(word key) { page_index_remove(words.data(), words.size(), key, all); }
     word list(Words &out) const { return page_index_list(words.data(), words.size(), out.data(), out.size()).value; }
     void mend() { page_index_mend(words.data(), words.size(), all); }
+    std::uint32_t merge(word key) {
+        page_index_reply r = page_index_merge(words.data(), words.size(), key, all);
+        stores = r.stores;
+        return r.code;
+    }
     word print(word year, Bytes &out) const { return month_board_print(words.data(), words.size(), year, out.data(), out.size()).value; }
     std::size_t bytes() const { return 8 * words.size(); }
 
@@ -98,6 +104,11 @@ class Twin {
     void remove(word key) { remove_call(words.data(), words.size(), key); }
     word list(Words &out) const { return list_call(const_cast<word *>(words.data()), words.size(), out.data(), out.size()).value; }
     void mend() { mend_call(words.data(), words.size()); }
+    std::uint32_t merge(word key) {
+        twin::Answer r = twin_merge(words.data(), words.size(), key);
+        stores = r.stores;
+        return r.code;
+    }
     word print(word year, Bytes &out) const { return twin_print(words.data(), words.size(), year, out.data(), out.size()); }
     std::size_t bytes() const { return 8 * words.size(); }
 
