@@ -14,6 +14,7 @@ use crate::tally::GET;
 use crate::tally::LENT;
 use crate::tally::LIST;
 use crate::tally::MEND;
+use crate::tally::MERGE;
 use crate::tally::PUT;
 use crate::tally::REMOVE;
 use crate::tally::STORES;
@@ -22,10 +23,12 @@ use crate::tally::count_reply;
 use crate::tally::expect;
 use index_model::ABSENT;
 use index_model::BAD_SHAPE;
+use index_model::BOTH_LIVE;
 use index_model::BROKEN;
 use index_model::CUT_OFF;
 use index_model::Call;
 use index_model::DONE;
+use index_model::NO_BUDDY;
 use index_model::NO_KEY;
 use index_model::NO_SEGMENT;
 use index_model::NO_STORE;
@@ -50,6 +53,7 @@ fn column_of(call: Call) -> usize {
         Call::Get(_) => GET,
         Call::Put(_, _, _) => PUT,
         Call::Remove(_, _) => REMOVE,
+        Call::Merge(_, _) => MERGE,
         Call::Mend(_) => MEND,
         Call::List(_) => LIST,
     }
@@ -80,6 +84,7 @@ fn request_of(call: Call) -> rules::Call {
             allowance,
         },
         Call::Remove(key, allowance) => rules::Call::Remove { key, allowance },
+        Call::Merge(key, allowance) => rules::Call::Merge { key, allowance },
         Call::Mend(allowance) => rules::Call::Mend { allowance },
         Call::List(_) => rules::Call::List,
     }
@@ -131,21 +136,22 @@ pub fn make(words: &mut [u64], length: usize, call: Call) -> Outcome {
     said_by(made_on(words, length, call))
 }
 
-// Whether document 01 allows the call this refusal, by its table of refusals.
+// Whether the call may be refused so, by document 01's table of refusals, and for a merge by document 02.
 fn may_refuse(call: usize, refusal: u32) -> bool {
     match refusal {
         NO_STORE | BROKEN => call != FORMAT,
-        NO_KEY => call == GET || call == PUT || call == REMOVE,
-        UNMENDED => call == PUT || call == REMOVE || call == LIST,
+        NO_KEY => call == GET || call == PUT || call == REMOVE || call == MERGE,
+        UNMENDED => call == PUT || call == REMOVE || call == MERGE || call == LIST,
         TOO_DEEP | NO_SEGMENT => call == PUT,
         CUT_OFF => call != GET && call != LIST,
         BAD_SHAPE | TOO_SHORT => call == FORMAT,
         SHORT_LIST => call == LIST,
+        NO_BUDDY | BOTH_LIVE => call == MERGE,
         _ => false,
     }
 }
 
-// Whether document 01 allows the call this reply.
+// Whether the documents allow the call this reply.
 fn may_say(call: usize, reply: Reply) -> bool {
     match reply {
         Reply::Done => call != GET && call != LIST,

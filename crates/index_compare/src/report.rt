@@ -1,9 +1,11 @@
 // The table on standard output. Every number in it was counted.
 use crate::tally::COLUMNS;
+use crate::tally::FIRST_LINE_COLUMNS;
 use crate::tally::REPLIES;
 use libc::STDOUT_FILENO;
 use model_array::words::Cells;
 use model_array::words::word_at;
+use std::num::wrapping_add_usize;
 
 // The width of a column of numbers.
 const WIDTH: u32 = 12;
@@ -23,6 +25,8 @@ const REPLY_NAMES: [Name; REPLIES] = [
     *b"8 bad shape   ",
     *b"9 too short   ",
     *b"10 short list ",
+    *b"14 no buddy   ",
+    *b"15 both live  ",
     *b"absent        ",
 ];
 
@@ -38,11 +42,12 @@ fn write_number(number: u64) {
     io::print_decimal(STDOUT_FILENO, number);
 }
 
-// Writes a name and the numbers of a line of the counts.
-fn write_line(tally: &Cells, line: u32, name: &Name) {
+// Writes a name and the first numbers of a line of the counts.
+fn write_line(tally: &Cells, line: u32, columns: usize, name: &Name) {
     io::write_all(STDOUT_FILENO, name);
-    for column in 0..COLUMNS {
-        write_number(word_at(tally, COLUMNS * (line as usize) + column));
+    for column in 0..columns {
+        let at = wrapping_add_usize(COLUMNS * (line as usize), column);
+        write_number(word_at(tally, at));
     }
     io::write_all(STDOUT_FILENO, b"\n");
 }
@@ -53,13 +58,13 @@ pub fn write_table(tally: &Cells, family: &Name) {
         STDOUT_FILENO,
         b"family               cases       calls   cut calls      stores     lookups differences\n",
     );
-    write_line(tally, 0, family);
+    write_line(tally, 0, FIRST_LINE_COLUMNS, family);
     io::write_all(
         STDOUT_FILENO,
-        b"\nreply               format         get         put      remove        mend        list\n",
+        b"\nreply               format         get         put      remove       merge        mend        list\n",
     );
     for reply in 0..REPLIES {
         let name = REPLY_NAMES[reply];
-        write_line(tally, reply as u32 + 1, &name);
+        write_line(tally, reply as u32 + 1, COLUMNS, &name);
     }
 }

@@ -1,13 +1,18 @@
-// The counts of a test program, in an array of its own, as lines of six numbers: line 0 has cases, calls
-// and so on; the lines behind it say how often each reply came, with a number for each call. Behind the
-// lines stands how many words of the arrays are lent to a call.
+// The counts of a test program, in an array of its own, as lines of numbers: line 0 has cases, calls and so
+// on; the lines behind it say how often each reply came, with a number for each call. Behind the lines
+// stands how many words of the arrays are lent to a call.
 use crate::arrays::Arrays;
 use crate::arrays::TALLY;
 use index_model::ABSENT;
+use index_model::BOTH_LIVE;
+use index_model::NO_BUDDY;
+use index_model::SHORT_LIST;
 use std::num::wrapping_add_u64;
 
-// The numbers of a line.
-pub(crate) const COLUMNS: usize = 6;
+// The places of a line: one for each call in the lines of replies, of which line 0 uses the first six.
+pub(crate) const COLUMNS: usize = 7;
+
+pub(crate) const FIRST_LINE_COLUMNS: usize = 6;
 
 // The columns of line 0.
 pub(crate) const CASES: usize = 0;
@@ -31,14 +36,17 @@ pub(crate) const PUT: usize = 2;
 
 pub(crate) const REMOVE: usize = 3;
 
-pub(crate) const MEND: usize = 4;
+pub(crate) const MERGE: usize = 4;
 
-pub(crate) const LIST: usize = 5;
+pub(crate) const MEND: usize = 5;
 
-// The refusals of document 01, and the lines of replies: done, each refusal, absent.
-const REFUSALS: u32 = 10;
+pub(crate) const LIST: usize = 6;
 
-pub(crate) const REPLIES: usize = REFUSALS as usize + 2;
+// The lines of replies: done, the ten refusals of document 01, the two of a merge, absent.
+pub(crate) const REPLIES: usize = 14;
+
+// No line of replies: that of cases and calls.
+const NO_LINE: u32 = 0;
 
 // Where the number of words lent stands.
 pub(crate) const LENT: usize = COLUMNS * (REPLIES + 1);
@@ -62,16 +70,24 @@ pub fn expect(arrays: &mut Arrays, holds: bool) {
     }
 }
 
-// The line of a reply: line 1 for done, then the refusals, absent last.
+// The line of a reply: line 1 for done, then the refusals, absent last. A number that no call of the index
+// replies with, as a refusal of the board, has none.
 fn line_of(reply: u32) -> u32 {
-    if reply == ABSENT {
-        return REFUSALS + 2;
+    match reply {
+        ABSENT => REPLIES as u32,
+        NO_BUDDY => 12,
+        BOTH_LIVE => 13,
+        0..=SHORT_LIST => reply + 1,
+        _ => NO_LINE,
     }
-    reply % (REFUSALS + 1) + 1
 }
 
-// Counts a reply of a call.
+// Counts a reply of a call; one that has no line is a difference.
 pub(crate) fn count_reply(arrays: &mut Arrays, call: usize, reply: u32) {
-    let line = line_of(reply) as usize;
-    count(arrays, COLUMNS * line + call % COLUMNS, 1);
+    let line = line_of(reply);
+    if line == NO_LINE {
+        count(arrays, DIFFERENCES, 1);
+        return;
+    }
+    count(arrays, COLUMNS * (line as usize) + call % COLUMNS, 1);
 }

@@ -1,7 +1,7 @@
-// The model: document 01's calls, as document 02 changes them, written a second time, from the documents
-// alone. It shares no function and no definition with `index` or `rules`, and works in another way: a
-// call first makes all its due stores on a copy and notes each, whatever the allowance; then the first
-// noted stores, as many as are allowed, are made on the array. Blocks and used segments are found by
+// The model: document 01's calls, as document 02 changes and adds to them, written a second time, from the
+// documents alone. It shares no function and no definition with `index` or `rules`, and works in another
+// way: a call first makes all its due stores on a copy and notes each, whatever the allowance; then the
+// first noted stores, as many as are allowed, are made on the array. Blocks and used segments are found by
 // marking.
 //
 // An index is the first `length` words of an array of the type `Cells`.
@@ -9,6 +9,7 @@ mod draft;
 mod formatting;
 pub mod listing;
 mod mending;
+mod merging;
 mod placing;
 mod putting;
 mod removing;
@@ -21,6 +22,7 @@ use draft::note_found;
 use formatting::plan_format;
 use listing::plan_list;
 use mending::plan_mend;
+use merging::plan_merge;
 use model_array::array::shape_of;
 use model_array::blocks::block_of;
 use model_array::blocks::is_in_range;
@@ -31,7 +33,8 @@ use placing::find_key;
 use putting::plan_put;
 use removing::plan_remove;
 
-// The model's replies: done, document 01's refusals by their numbers, and absent, which has no number there.
+// The model's replies: done, the refusals of documents 01 and 02 by their numbers, and absent, which has
+// no number there.
 pub const DONE: u32 = 0;
 
 pub const NO_STORE: u32 = 1;
@@ -54,18 +57,23 @@ pub const TOO_SHORT: u32 = 9;
 
 pub const SHORT_LIST: u32 = 10;
 
+pub const NO_BUDDY: u32 = 14;
+
+pub const BOTH_LIVE: u32 = 15;
+
 pub const ABSENT: u32 = 255;
 
 // An allowance that cuts no call off.
 pub const ALL_STORES: u32 = 4294967295;
 
-// A call: a format with D and S, a get with its key, a put with key and value, a remove with its key, a
-// mend, a list with the words of its list array. Those that store have their allowance last.
+// A call: a format with D and S, a get with its key, a put with key and value, a remove and a merge with
+// their key, a mend, a list with the words of its list array. Those that store have their allowance last.
 pub enum Call {
     Format(u64, u64, u32),
     Get(u64),
     Put(u64, u64, u32),
     Remove(u64, u32),
+    Merge(u64, u32),
     Mend(u32),
     List(usize),
 }
@@ -106,6 +114,7 @@ fn plan(draft: &mut Cells, length: usize, call: Call) -> u32 {
         Call::Get(key) => plan_get(draft, length, key),
         Call::Put(key, value, _) => plan_put(draft, length, key, value),
         Call::Remove(key, _) => plan_remove(draft, length, key),
+        Call::Merge(key, _) => plan_merge(draft, length, key),
         Call::Mend(_) => plan_mend(draft, length),
         Call::List(room) => plan_list(draft, length, room),
     }
@@ -117,8 +126,21 @@ fn allowance_of(call: Call) -> u32 {
         Call::Format(_, _, allowance) => allowance,
         Call::Put(_, _, allowance) => allowance,
         Call::Remove(_, allowance) => allowance,
+        Call::Merge(_, allowance) => allowance,
         Call::Mend(allowance) => allowance,
         _ => 0,
+    }
+}
+
+// The call with another allowance.
+pub fn with_allowance(call: Call, allowance: u32) -> Call {
+    match call {
+        Call::Format(max_depth, segments, _) => Call::Format(max_depth, segments, allowance),
+        Call::Put(key, value, _) => Call::Put(key, value, allowance),
+        Call::Remove(key, _) => Call::Remove(key, allowance),
+        Call::Merge(key, _) => Call::Merge(key, allowance),
+        Call::Mend(_) => Call::Mend(allowance),
+        _ => call,
     }
 }
 

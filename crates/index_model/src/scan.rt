@@ -72,8 +72,8 @@ pub(crate) fn verdict_of(words: &Cells, shape: Shape) -> u32 {
     DONE
 }
 
-// What a put or a remove tests before anything else, in document 01's order; done if nothing is in
-// the way.
+// What a put, a remove or a merge tests before anything else, in document 01's order; done if nothing is
+// in the way.
 pub(crate) fn tests_of_change(words: &Cells, length: usize, key: u64) -> u32 {
     let shape = shape_of(words, length);
     if !shape.sound {

@@ -98,17 +98,20 @@ fn refused_format(roll: u64) -> Call {
     }
 }
 
-// The call of a step, by a random number. Half are puts that all their stores are allowed.
+// The call of a step, by a random number. Half are puts that all their stores are allowed, one in eight of
+// these a merge instead.
 pub fn call_for(table: &Cells, roll: u64) -> Call {
     let key = word_at(table, entry_for(roll));
     let value = roll / 1024;
     match roll % 16 {
-        0..=7 => Call::Put(key, value, ALL_STORES),
+        0..=6 => Call::Put(key, value, ALL_STORES),
+        7 => Call::Merge(key, ALL_STORES),
         8 | 9 => Call::Remove(key, remove_allowance(roll)),
         10 => Call::Get(key),
         11 => Call::List(room_for(size_of(table), value)),
         12 => Call::Mend((value % 2) as u32),
         13 => refused_format(value),
-        _ => Call::Put(key, value, (value % 128) as u32),
+        14 => Call::Put(key, value, (value % 128) as u32),
+        _ => Call::Merge(key, (value % 8) as u32),
     }
 }

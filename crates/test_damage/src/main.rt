@@ -17,6 +17,8 @@ use index_model::Call;
 use model_array::array::LOCAL_DEPTH_UNIT;
 use model_array::array::MAX_DEPTH_UNIT;
 use model_array::array::SEGMENTS_UNIT;
+use model_array::array::entry_address;
+use model_array::array::entry_at;
 use model_array::array::power;
 use model_array::array::words_before;
 use model_array::route::unfolded;
@@ -191,6 +193,14 @@ fn spoil_entry(words: &mut Cells, shape: Shape, roll: u64) {
     set_word(words, at, spoiled_entry(entry, other, shape, roll));
 }
 
+// Gives an entry the word of the one that shares a block one shallower with it, so that a block of one
+// index and its buddy name one segment.
+fn share_segment(words: &mut Cells, shape: Shape, roll: u64) {
+    let index = below(roll / 8, power(shape.depth));
+    let buddy = entry_at(words, shape.depth, index ^ 1);
+    set_word(words, entry_address(shape.depth, index), buddy);
+}
+
 // Spoils a slot: a stray key, a second copy of its record nearby, no key, or any key.
 fn spoil_slot(words: &mut Cells, stray: u64, shape: Shape, roll: u64) {
     let base = words_before(shape.max_depth, below(roll / 8, shape.segments));
@@ -215,7 +225,8 @@ fn spoil(words: &mut Cells, stray: u64, shape: Shape, roll: u64) {
             let first = word_at(words, 0);
             set_word(words, 0, spoiled_first(first, roll / 16));
         }
-        2..=9 => spoil_entry(words, shape, roll / 16),
+        2..=7 => spoil_entry(words, shape, roll / 16),
+        8..=9 => share_segment(words, shape, roll / 16),
         10..=14 => spoil_slot(words, stray, shape, roll / 16),
         _ => {}
     }
@@ -252,9 +263,10 @@ fn any_call(run: u64, roll: u64) -> Call {
     let key = key_for(run, roll / 16);
     let allowance = allowance_for(roll / 65536);
     match roll % 16 {
-        0..=4 => Call::Put(key, roll, allowance),
-        5..=7 => Call::Remove(key, allowance),
-        8..=10 => Call::Get(key),
+        0..=3 => Call::Put(key, roll, allowance),
+        4..=5 => Call::Remove(key, allowance),
+        6..=8 => Call::Merge(key, allowance),
+        9..=10 => Call::Get(key),
         11..=12 => Call::Mend(allowance),
         13..=14 => Call::List((roll / 65536 % 256) as usize),
         _ => any_format(roll / 16),

@@ -1,5 +1,7 @@
-// Family 1 of the test: document 01's known states a to k. Each figure of the document is compared with
-// what the index says, beside the comparison with the model.
+// Family 1 of the test: document 01's known states a to k, and known merges. Each figure of the documents is
+// compared with what the index says, beside the comparison with the model.
+mod merges;
+
 use index_compare::arrays::ARRAYS;
 use index_compare::arrays::Arrays;
 use index_compare::arrays::INDEX;
@@ -21,6 +23,7 @@ use index_model::Outcome;
 use index_model::TOO_DEEP;
 use index_model::TOO_SHORT;
 use index_model::UNMENDED;
+use merges::test_merges;
 use model_array::array::words_before;
 use model_array::words::CELLS;
 use model_array::words::Cells;
@@ -77,13 +80,18 @@ fn format_state(arrays: &mut Arrays, length: usize, call: Call, reply: u32, stor
     expect_call(arrays, call, reply, stores);
 }
 
+// A key's value in a fill: ten times the key, as in state b.
+fn value_for(key: u64) -> u64 {
+    key % 65536 * 10
+}
+
 // A case with a format of D = 2, and puts of sixteen keys: `first`, and on by `step`.
 fn fill(arrays: &mut Arrays, segments: u32, first: u64, step: u64) {
     begin(arrays, words_before(2, segments));
     compare(arrays, Call::Format(2, segments as u64, ALLOWANCE));
     let mut key = first;
     for _ in 0..WINDOW {
-        compare(arrays, Call::Put(key, key, ALLOWANCE));
+        compare(arrays, Call::Put(key, value_for(key), ALLOWANCE));
         key = wrapping_add_u64(key, step);
     }
 }
@@ -159,11 +167,16 @@ fn expect_index(arrays: &mut Arrays, key: u64, index: usize) {
     expect_word(arrays, 64 + 128 * (index % 4), key);
 }
 
-// d: at depth 2 the keys 7, 39, 23, 55 have the indices 0, 1, 2, 3.
-fn state_d(arrays: &mut Arrays) {
+// Begins a case with that directory.
+fn begin_deep(arrays: &mut Arrays) {
     begin(arrays, WORDS_4);
     deepen(&mut arrays[INDEX]);
     arrays[MODEL] = arrays[INDEX];
+}
+
+// d: at depth 2 the keys 7, 39, 23, 55 have the indices 0, 1, 2, 3.
+fn state_d(arrays: &mut Arrays) {
+    begin_deep(arrays);
     expect_index(arrays, 7, 0);
     expect_index(arrays, 39, 1);
     expect_index(arrays, 23, 2);
@@ -257,6 +270,7 @@ fn test_known(arrays: &mut Arrays) {
     state_d(arrays);
     states_e_f(arrays);
     state_g(arrays);
+    test_merges(arrays);
     states_h_i(arrays);
     state_j(arrays);
     state_k(arrays);

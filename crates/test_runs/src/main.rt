@@ -1,6 +1,7 @@
 // Family 2 of the test: long runs by document 01's rule, at the depths 2 to 6, with keys that collide.
-// Puts that split are cut at every number of their stores, mended and made again. After each step every
-// key is looked up and compared with the plain table.
+// Puts that split and merges are cut at every number of their stores, mended and made again. A run ends
+// with its keys taken away one by one, and a merge behind each. After each step every key is looked up and
+// compared with the plain table.
 mod table;
 
 use index_compare::arrays::ARRAYS;
@@ -17,12 +18,16 @@ use index_model::ALL_STORES;
 use index_model::CUT_OFF;
 use index_model::Call;
 use index_model::DONE;
+use index_model::with_allowance;
 use model_array::array::power;
 use model_array::array::words_before;
 use model_array::words::CELLS;
+use model_array::words::word_at;
 use random_calls::generator::from_seed;
 use random_calls::generator::next;
 use random_calls::generator::scatter;
+use random_calls::runs::ENTRY_WORDS;
+use random_calls::runs::KEYS;
 use random_calls::runs::call_for;
 use random_calls::runs::draw_keys;
 use random_calls::runs::entry_for;
@@ -82,34 +87,47 @@ fn restore(arrays: &mut Arrays) {
     arrays[MODEL] = arrays[SAVED];
 }
 
-// A put cut after `allowance` stores, the mends behind it, a lookup of every key, and the put again.
-fn cut_once(arrays: &mut Arrays, key: u64, value: u64, allowance: u32) {
+// Makes a call again. No merge changes the table, so every key is looked up behind one.
+fn make_again(arrays: &mut Arrays, call: Call) {
+    compare(arrays, call);
+    if let Call::Merge(_, _) = call {
+        look_up_all(arrays);
+    }
+}
+
+// A call cut after `allowance` stores, the mends behind it, a lookup of every key, and the call again.
+fn cut_once(arrays: &mut Arrays, call: Call, allowance: u32) {
     restore(arrays);
-    compare(arrays, Call::Put(key, value, allowance));
+    compare(arrays, with_allowance(call, allowance));
     recover(arrays, allowance % 3);
     look_up_all(arrays);
-    compare(arrays, Call::Put(key, value, ALL_STORES));
+    make_again(arrays, call);
 }
 
-// A put cut at every number of its stores, and then made whole.
-fn cut_everywhere(arrays: &mut Arrays, key: u64, value: u64, stores: u32) {
+// A call cut at every number of its stores, and then made whole.
+fn cut_everywhere(arrays: &mut Arrays, call: Call, stores: u32) {
     for allowance in 0..stores {
-        cut_once(arrays, key, value, allowance);
+        cut_once(arrays, call, allowance);
     }
     restore(arrays);
-    compare(arrays, Call::Put(key, value, ALL_STORES));
+    compare(arrays, call);
 }
 
-// A put that all its stores are allowed. One that splits, and one in eight others, is cut everywhere
-// first.
-fn put_step(arrays: &mut Arrays, entry: usize, call: Call) {
-    let Call::Put(key, value, _) = call else {
-        return;
-    };
+// Whether a call that made this many stores is to be cut everywhere: a put that splits and one in eight
+// others, and every merge that makes stores.
+fn is_to_cut(call: Call, stores: u32) -> bool {
+    match call {
+        Call::Put(_, value, _) => 2 < stores || value % 8 == 0,
+        _ => 0 < stores,
+    }
+}
+
+// A put or a merge that all its stores are allowed, cut everywhere first if it is to be.
+fn whole_step(arrays: &mut Arrays, entry: usize, call: Call) {
     arrays[SAVED] = arrays[INDEX];
     let whole = compare(arrays, call);
-    if 2 < whole.stores || value % 8 == 0 {
-        cut_everywhere(arrays, key, value, whole.stores);
+    if is_to_cut(call, whole.stores) {
+        cut_everywhere(arrays, call, whole.stores);
     }
     if whole.reply == DONE {
         tell(&mut arrays[TABLE], entry, call);
@@ -120,6 +138,7 @@ fn put_step(arrays: &mut Arrays, entry: usize, call: Call) {
 fn mend_allowance(call: Call) -> u32 {
     match call {
         Call::Put(_, value, _) => (value % 2) as u32,
+        Call::Merge(_, allowance) => allowance % 2,
         _ => 0,
     }
 }
@@ -139,7 +158,7 @@ fn call_step(arrays: &mut Arrays, entry: usize, call: Call) {
 fn step(arrays: &mut Arrays, roll: u64) {
     let call = call_for(&arrays[TABLE], roll);
     match roll % 16 {
-        0..=7 => put_step(arrays, entry_for(roll), call),
+        0..=7 => whole_step(arrays, entry_for(roll), call),
         12 => recover(arrays, (roll / 1024 % 2) as u32),
         _ => call_step(arrays, entry_for(roll), call),
     }
@@ -152,6 +171,22 @@ fn take_steps(arrays: &mut Arrays, seed: u64) {
         roll = next(roll);
         step(arrays, roll);
         look_up_all(arrays);
+    }
+}
+
+// Takes a key away, and merges its block with the buddy if that can be.
+fn clear_key(arrays: &mut Arrays, number: u32) {
+    let entry = ENTRY_WORDS * (number as usize);
+    let key = word_at(&arrays[TABLE], entry);
+    call_step(arrays, entry, Call::Remove(key, ALL_STORES));
+    whole_step(arrays, entry, Call::Merge(key, ALL_STORES));
+    look_up_all(arrays);
+}
+
+// Takes all keys away, one by one, with the merges that come to be possible.
+fn clear(arrays: &mut Arrays) {
+    for number in 0..KEYS as u32 {
+        clear_key(arrays, number);
     }
 }
 
@@ -170,6 +205,7 @@ fn run(arrays: &mut Arrays, setting: Setting) {
         ),
     );
     take_steps(arrays, setting.seed);
+    clear(arrays);
 }
 
 // All runs.

@@ -7,8 +7,8 @@ pub cut-everywhere-spec : {M : Type 1} → statement M
 cut-everywhere-spec =
     tie.close
     (tie.spec
-    (λ arrays₀ key value stores allowance₀ arrays allowance. 0 ≤ allowance)
-    (λ arrays₀ key value stores allowance₀ arrays allowance. stores - allowance)
+    (λ arrays₀ call stores allowance₀ arrays allowance. 0 ≤ allowance)
+    (λ arrays₀ call stores allowance₀ arrays allowance. stores - allowance)
     (λ c. search needs)
     (λ c κs. search needs)
     (λ c. search needs)

@@ -7,8 +7,8 @@ pub cut-around-spec : {M : Type 1} → statement M
 cut-around-spec =
     tie.close
     (tie.spec
-    (λ arrays₀ border offset₀ arrays offset. 0 ≤ offset)
-    (λ arrays₀ border offset₀ arrays offset. 21 - offset)
+    (λ arrays₀ call border offset₀ arrays offset. 0 ≤ offset)
+    (λ arrays₀ call border offset₀ arrays offset. 21 - offset)
     (λ c. search needs)
     (λ c κs. search needs)
     (λ c κs. search needs)

@@ -7,14 +7,14 @@ pub fill-segment-spec : {M : Type 1} → statement M
 fill-segment-spec =
     tie.close
     (tie.spec
-    (λ arrays₀ i₀ arrays i. 0 ≤ i)
-    (λ arrays₀ i₀ arrays i. 64 - i)
+    (λ arrays₀ added i₀ arrays i. 0 ≤ i)
+    (λ arrays₀ added i₀ arrays i. 64 - i)
     (λ c. search needs)
     (λ c. search needs)
     (λ c. search needs)
     (λ c. search needs)
     (λ c κs. search needs)
-    (λ c. search needs)
+    (λ c κs. search needs)
     (λ c κs. search needs)
     (λ c. search needs)
     (λ c. search needs)

@@ -7,12 +7,12 @@ pub write-line-spec : {M : Type 1} → statement M
 write-line-spec =
     tie.close
     (tie.spec
-    (λ tally line name column₀ t5 column. 0 ≤ column)
-    (λ tally line name column₀ t5 column. 6 - column)
+    (λ tally line columns name column₀ t7 column. 0 ≤ column)
+    (λ tally line columns name column₀ t7 column. columns - column)
     (λ c κs. search needs)
     (λ c. search needs)
     (λ c. search needs)
-    (λ c. search needs)
+    (λ c κs. search needs)
     (λ c κs. search needs)
     (λ c κs. search needs)
     (λ c. search needs)
