@@ -4,8 +4,9 @@
  * 4096 + number, its value the pages.
  *
  * The functions are in libpage_index.a, beside those of page_index.h. The board's array is formatted
- * by page_index_format and mended by page_index_mend, after a power cut too. What page_index.h says of
- * the library, of the stack (less than 8,192 bytes a call) and of power cuts holds for the board.
+ * by page_index_format and mended by page_index_mend, after a power cut too; page_index_merge with a
+ * job's key gives a segment back. What page_index.h says of the library, of the stack (less than 8,192
+ * bytes a call) and of power cuts holds for the board.
  *
  * What the caller owes, for every call:
  *   - `words` points to `len` words, as in page_index.h.
