@@ -108,8 +108,7 @@ module _ {p : Place} {a : List ℕ} (k : KeyPlace p a) where
           unfolding buddyEntry
           entry-here = entry-word count x (k .header-read) n ∙ ap (entryAt a (depth a)) buddy-here
 
-          pub other-depth : (localDepth (word a (count + x)) ≡ p .«local_depth» → ⊥)
-              → keyBuddy a (p .key) ≡ false
+          pub other-depth : (localDepth (word a (count + x)) ≡ p .«local_depth» → ⊥) → keyBuddy a (p .key) ≡ false
           unfolding hasBuddy
           other-depth u =
               rw (← entry-here, k .depth-is, ne-eqb (p .«local_depth») 0 deep, ne-eqb (localDepth (word a (count + x))) (p .«local_depth») u)

@@ -15,7 +15,7 @@ use Rattle.stores.proofs.Tests.{and-left}
 use Rattle.stores.proofs.Lists.{each-same, every-each, any-same}
 use Rattle.stores.proofs.Stores.{executed-append}
 use Rattle.stores.proofs.Loops.{executed-length}
-use Rattle.rules.specs.Layout.{depth, segments, segmentAddress, localDepth, keyAddress, valueAddress, keyAt}
+use Rattle.rules.specs.Layout.{depth, segments, localDepth, keyAddress, valueAddress, keyAt}
 use Rattle.rules.specs.Keys.{firstBits, index, blockBits, blockStart}
 use Rattle.rules.specs.Get.{keyEntry}
 use Rattle.rules.specs.Merge.{joinedDepth, buddyEntry, liveLeft, liveRight, bothLive, mergeRecord, mergeSlot, mergingSlots, hasBuddy, slotsMerged, entriesJoined, mergingOf, keyBothLive, keyMerging}
@@ -159,11 +159,18 @@ module _ {p : Place} {pair : Pair} {a : List ℕ} (r : PairReady p pair a) where
         record {
           low = omega (arith, joined-low);
           depth-high = g .depth-high;
-          inside = rw start (block-end (p .header .depth) (p .«local_depth» - 1) (index (p .key) (p .header .depth)) (omega (arith, joined-low)) (index-lt (p .key) (p .header .depth)));
+          inside =
+              rw start
+              (block-end (p .header .depth) (p .«local_depth» - 1) (index (p .key) (p .header .depth)) (omega (arith, joined-low))
+              (index-lt (p .key) (p .header .depth)));
           fits = omega (arith, r .left-below, g .segments-high);
           room = rw (executed-length made) (omega (arith, g .room));
         },
-        omega (arith, made .count, length-slots a (segmentAddress (p .header .«max_depth») (pair .left)) a (segmentAddress (p .header .«max_depth») (pair .right)) (p .«local_depth» - 1) (shared (mergingAt p pair .joined))),
+        omega (
+          arith,
+          made .count,
+          length-slots a (mergingAt p pair .«left_base») a (mergingAt p pair .«right_base») (p .«local_depth» - 1) (shared (mergingAt p pair .joined)),
+        ),
       )
 
   pub merge-made : (allowed due : ℕ) (b : List ℕ) (due′ : ℕ) (b′ : List ℕ) → Executed (slotsIn a (mergingAt p pair)) allowed 0 a due b
