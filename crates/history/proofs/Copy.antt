@@ -6,13 +6,13 @@ use mathlib.Core.List.{List, [], _∷_, List·Memᴰ}
 use mathlib.Core.Logic.{_⊎_, inl, inr, ⊎-elim}
 use Prim.Native.Nat.{ℕ, suc, _+_, _*_, _^_, _<_}
 use native.Mathlib.Omega.{arith}
-use lib.ListN.{length, set, length-set}
+use lib.ListN.{length}
 use lib.Pow.{pow-pos}
 use Rattle.stores.specs.Lists.{pick}
 use Rattle.stores.specs.Store.{Store, word, store, apply, exec, Every}
 use Rattle.stores.proofs.Tests.{cases}
 use Rattle.stores.proofs.Lists.{every-pick}
-use Rattle.stores.proofs.Stores.{length-exec, word-set-same, word-set-other}
+use Rattle.stores.proofs.Stores.{length-exec, word-set-same}
 use Rattle.stores.proofs.Prefixes.{Always, always-whole, exec-elsewhere}
 use Rattle.rules.specs.Layout.{entryAddress, entryAt, segmentOf, localDepth, segmentAddress, keyAddress, valueAddress, keyAt, valueAt}
 use Rattle.rules.specs.Keys.{live, window}
@@ -23,7 +23,7 @@ use Rattle.runs.specs.Map.{Map}
 use Rattle.history.proofs.Holds.{Holds, holds-same}
 use Rattle.history.proofs.Invariant.{Inv, Recovered, baseAt, SegmentSame, Framed, inv-framed}
 use Rattle.history.proofs.Kept.{Kept}
-use Rattle.rules.proofs.SlotStores.{InSlot, key-in-slot, value-in-slot, slot-alone}
+use Rattle.rules.proofs.SlotStores.{InSlot, key-in-slot, value-in-slot, record-key, record-value, slot-alone}
 use Rattle.rules.proofs.Halving.{moves-live, copying-within}
 use Rattle.rules.proofs.Blocks.{bitsAt}
 
@@ -46,7 +46,7 @@ module _ (a : List ℕ) (from to L bits j : ℕ) (h : j < 64) (b : List ℕ) whe
       slot-alone to (copySlot a from to L bits) (slot-stores a from to L bits) j (keyAddress to j) 64 b (key-in-slot to j) h
       ∙ ⊎-elim
       (λ (t : moves a from L bits j ≡ true).
-      rw t (word-set-same (set b (valueAddress to j) (valueAt a from j)) (keyAddress to j) (keyAt a from j) (rw length-set inside)))
+      rw t (record-key to j (keyAt a from j) (valueAt a from j) b inside))
       (λ (t : moves a from L bits j ≡ false). rw t (word-set-same b (keyAddress to j) 0 inside))
       (cases (moves a from L bits j))
 
@@ -56,9 +56,7 @@ module _ (a : List ℕ) (from to L bits j : ℕ) (h : j < 64) (b : List ℕ) whe
   unfolding copying copySlot apply
   copied-value inside t =
       slot-alone to (copySlot a from to L bits) (slot-stores a from to L bits) j (valueAddress to j) 64 b (value-in-slot to j) h
-      ∙ rw t
-      (word-set-other (set b (valueAddress to j) (valueAt a from j)) (keyAddress to j) (valueAddress to j) (keyAt a from j) (λ q. omega arith)
-      ∙ word-set-same b (valueAddress to j) (valueAt a from j) inside)
+      ∙ rw t (record-value to j (keyAt a from j) (valueAt a from j) b inside)
 
 -- The stores of step 3 for index i's block.
 abbrev pub copies : (a : List ℕ) (g d : ℕ) → (ℕ → ℕ) → (i n : ℕ) → List Store

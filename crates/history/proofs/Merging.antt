@@ -10,11 +10,11 @@ use native.Mathlib.Nat.{add-zero}
 use native.Mathlib.Omega.{arith}
 use borrow.Author.Tests.{eqb-true, eqb-false, not-true}
 use lib.Dec.{eqb}
-use lib.ListN.{length, take, set, length-set}
+use lib.ListN.{length, take}
 use Rattle.stores.specs.Store.{Store, word, store, apply, exec, Every}
 use Rattle.stores.proofs.Tests.{cases, and-true, and-right}
 use Rattle.stores.proofs.Lists.{any-true, every-each, every-take, every-map}
-use Rattle.stores.proofs.Stores.{apply-append, length-apply, length-exec, exec-all, exec-none, word-set-same, word-set-other, word-elsewhere, word-keeps}
+use Rattle.stores.proofs.Stores.{apply-append, length-apply, length-exec, exec-all, exec-none, word-set-same, word-elsewhere, word-keeps}
 use Rattle.stores.proofs.Prefixes.{Always, always-whole, exec-elsewhere}
 use Rattle.replies.specs.Replies.{done}
 use Rattle.rules.specs.Layout.{entryAddress, entryAt, segmentOf, localDepth, segmentAddress, keyAddress, valueAddress, keyAt, valueAt}
@@ -22,7 +22,7 @@ use Rattle.rules.specs.Keys.{bit, width, blockBits, blockStart, live, window}
 use Rattle.rules.specs.Merge.{rightStart, liveLeft, liveRight, bothLive, mergeRecord, mergeSlot, mergingSlots, joining}
 use Rattle.rules.proofs.Words.{Within, key-within, value-within, within-inside, entry-inside, entry-positive, directories-below}
 use Rattle.rules.proofs.Keys.{bit-lt, live-index, live-stale, live-empty, live-half, window-lt, width-pos, block-end}
-use Rattle.rules.proofs.SlotStores.{InSlot, key-in-slot, value-in-slot, one-slot, slot-alone}
+use Rattle.rules.proofs.SlotStores.{InSlot, key-in-slot, value-in-slot, record-key, record-value, one-slot, slot-alone}
 use Rattle.rules.proofs.Updating.{same-start}
 use Rattle.rules.proofs.Joining.{TwoHalves, bits-left, bits-right, joinedDirectory, joined-out, joined-segment, joined-depth, halved-again, joining-elsewhere, begins-joined, either-joined, all-joined, length-joining}
 use Rattle.rules.proofs.Merge.{record-every, slots-within}
@@ -70,15 +70,13 @@ module _ (a : List ℕ) (left right M bits j : ℕ) (h : j < 64) where
     unfolding mergeSlot mergeRecord apply
     moved-key inside =
         merged-alone (keyAddress left j) (key-in-slot left j)
-        ∙ rw t (word-set-same (set a (valueAddress left j) (valueAt a right j)) (keyAddress left j) (keyAt a right j) (rw length-set inside))
+        ∙ rw t (record-key left j (keyAt a right j) (valueAt a right j) a inside)
 
     moved-value : valueAddress left j < length a → valueAt (apply (mergingSlots a left a right M bits) a) left j ≡ valueAt a right j
     unfolding mergeSlot mergeRecord apply
     moved-value inside =
         merged-alone (valueAddress left j) (value-in-slot left j)
-        ∙ rw t
-        (word-set-other (set a (valueAddress left j) (valueAt a right j)) (keyAddress left j) (valueAddress left j) (keyAt a right j) (λ q. omega arith)
-        ∙ word-set-same a (valueAddress left j) (valueAt a right j) inside)
+        ∙ rw t (record-value left j (keyAt a right j) (valueAt a right j) a inside)
 
   -- Else the key is the left segment's own, live or empty, or it is cleared: it is not live in the right half.
   not-moved : liveRight M bits (keyAt a right j) ≡ false → keyAddress left j < length a

@@ -1,5 +1,5 @@
--- Document 01's table of refusals by its rows: which of format, get, put, remove, merge, mend and list give each number. antt computes them
--- from the definition, which goes by the calls. 11 to 13 are the board's: no call of the index gives them.
+-- Document 01's table of refusals by its rows, and those that document 02 adds: which of format, get, put, remove, merge, mend and list give
+-- each number. antt computes them from the definition, which goes by the calls. 11 to 13 are the board's: no call of the index gives them.
 -- Assumes nothing.
 use Prim.Native.Nat.{ℕ}
 use mathlib.Core.Path.{_≡_, refl}

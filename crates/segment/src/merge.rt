@@ -41,9 +41,8 @@ pub fn some_both_live(left: &[u64], right: &[u64], joined: Block) -> bool
     false
 }
 
-// One slot of the left segment: the right one's record, if it is live there, value before key, so that a
-// cut between the two shows no record with another's value. Where neither is live, a key that is not
-// 0 is cleared: it could be live in the joined block.
+// One slot of the left segment: the right one's record, if it is live there, value, then key. Where
+// neither is live, a key that is not 0 is cleared: it could be live in the joined block.
 fn merge_slot(
     segment: &mut [u64],
     slot: usize,

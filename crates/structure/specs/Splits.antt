@@ -69,6 +69,7 @@ halvesAt h start =
       «new_segment» = h .«new_segment»;
     }
 
+-- The first index of the key's block.
 abbrev pub startAt : Halving → ℕ
 startAt h = blockStart (h .depth) (h .place .«local_depth») (firstBits (h .place .bits) (h .depth))
 
