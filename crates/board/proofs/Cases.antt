@@ -14,7 +14,7 @@ use Rattle.stores.proofs.Lists.{mem-each, each-mem, some-none}
 use Rattle.stores.proofs.Tests.{cases}
 use Rattle.replies.specs.declared.Answer.{Answer}
 use Rattle.replies.specs.declared.Reply.the-variants.{Value}
-use Rattle.replies.specs.Replies.{Said, done, absent, refused, saidBy}
+use Rattle.replies.specs.Replies.{Said, done, listed, absent, refused, saidBy}
 use Rattle.replies.specs.Writing.{Writing, nothing}
 use Rattle.replies.specs.Answered.{Wrote}
 use Rattle.replies.proofs.Outcomes.{refused-not-done}
@@ -55,6 +55,7 @@ lookup-made a year m n h k =
 first-same : (s : Said) (n : ℕ) → ((m : ℕ) → s ≡ refused m → m ≡ n) → firstRefusal s (some n) ≡ some n
 unfolding firstRefusal
 first-same (done vs) n same = refl
+first-same (listed k f) n same = refl
 first-same absent n same = refl
 first-same (refused m) n same = ap some (same m refl)
 
@@ -75,6 +76,7 @@ refused-with n (k ∷ ks) l h e same =
 first-none : (s : Said) (later : Option ℕ) → firstRefusal s later ≡ none → ((n : ℕ) → s ≡ refused n → ⊥) × (later ≡ none)
 unfolding firstRefusal
 first-none (done vs) later e = ((λ n q. refused-not-done n vs (sym q)), e)
+first-none (listed k f) later e = ((λ n q. let z : _≡_ {A = ℕ} 0 1 = cc in omega arith), e)
 first-none absent later e = ((λ n q. let z : _≡_ {A = ℕ} 0 1 = cc in omega arith), e)
 first-none (refused m) later e = absurd (some-none m e)
 
@@ -99,6 +101,7 @@ refused-first : (k : Lookup) (ks : List Lookup) (n : ℕ) → (refusedIn ks ≡ 
     → firstRefusal s (refusedIn ks) ≡ some n → RefusedWith n (k ∷ ks)
 unfolding firstRefusal
 refused-first k ks n later (done vs) q e = let r = later e in record { one = r .one; made = List·Memᴰ·tail (r .made); says = r .says }
+refused-first k ks n later (listed c f) q e = let r = later e in record { one = r .one; made = List·Memᴰ·tail (r .made); says = r .says }
 refused-first k ks n later absent q e = let r = later e in record { one = r .one; made = List·Memᴰ·tail (r .made); says = r .says }
 refused-first k ks n later (refused m) q e =
     record { one = k; made = List·Memᴰ·head refl; says = q ∙ ap refused (Option·some-injective m n e) }

@@ -12,8 +12,8 @@ use Rattle.replies.proofs.Reply
 use Rattle.replies.specs.declared.Answer.{Answer}
 use Rattle.replies.specs.declared.Refusal.{Refusal}
 use Rattle.replies.specs.declared.Reply.{Reply}
-use Rattle.replies.specs.declared.Reply.the-variants.{Done, Value, Absent, Refused as RefusedReply}
-use Rattle.replies.specs.Replies.{Said, done, absent, refused, saidBy}
+use Rattle.replies.specs.declared.Reply.the-variants.{Done, Value, Listed, Absent, Refused as RefusedReply}
+use Rattle.replies.specs.Replies.{Said, done, listed, absent, refused, saidBy}
 use Rattle.rules.specs.declared.Call.the-variants.{Get}
 use Rattle.rules.specs.Get.{get}
 use Rattle.rules.specs.Step.{effect, step, outcomeOf}
@@ -47,15 +47,16 @@ module _ (a : List ℕ) (year month number : ℕ) where
     line-found name pages e k = lines-found pages e ∙ rw k refl
 
     -- No line where the reply is another.
-    pub lines-none : OneOf (0 ∷ 2 ∷ 3 ∷ []) (denote.Enum.Declared.tagOf Rattle.replies.proofs.Reply.the-type reply)
+    pub lines-none : OneOf (0 ∷ 2 ∷ 3 ∷ 4 ∷ []) (denote.Enum.Declared.tagOf Rattle.replies.proofs.Reply.the-type reply)
         → linesIn (jobTurn a year month number) ≡ []
     unfolding jobsIn jobFound textOf
     lines-none t = rw said (go reply t)
       where
-        go : (r : Reply) → OneOf (0 ∷ 2 ∷ 3 ∷ []) (denote.Enum.Declared.tagOf Rattle.replies.proofs.Reply.the-type r)
+        go : (r : Reply) → OneOf (0 ∷ 2 ∷ 3 ∷ 4 ∷ []) (denote.Enum.Declared.tagOf Rattle.replies.proofs.Reply.the-type r)
             → linesIn (record { month = month; number = number; said = saidBy r } ∷ []) ≡ []
         go Done t = refl
-        go (Value v) t = absurd (miss (0 ∷ 2 ∷ 3 ∷ []) 1 Prim.tt t)
+        go (Value v) t = absurd (miss (0 ∷ 2 ∷ 3 ∷ 4 ∷ []) 1 Prim.tt t)
+        go (Listed n f) t = refl
         go Absent t = refl
         go (RefusedReply r) t = refl
 
@@ -66,13 +67,19 @@ module _ (a : List ℕ) (year month number : ℕ) where
     unfolding refusedIn firstRefusal
     counted-found pages n e k = (rw (said, e) refl, k ∙ ap length (sym (lines-found pages e)))
 
-    pub counted-done : reply ≡ Done → CountedBy (Bytes 0) (jobTurn a year month number)
+    -- Neither a value nor a refusal.
+    pub counted-none : OneOf (0 ∷ 2 ∷ 3 ∷ []) (denote.Enum.Declared.tagOf Rattle.replies.proofs.Reply.the-type reply)
+        → CountedBy (Bytes 0) (jobTurn a year month number)
     unfolding refusedIn firstRefusal jobsIn jobFound textOf
-    counted-done e = (rw (said, e) refl, rw (said, e) refl)
-
-    pub counted-absent : reply ≡ Absent → CountedBy (Bytes 0) (jobTurn a year month number)
-    unfolding refusedIn firstRefusal jobsIn jobFound textOf
-    counted-absent e = (rw (said, e) refl, rw (said, e) refl)
+    counted-none t = rw said (go reply t)
+      where
+        go : (r : Reply) → OneOf (0 ∷ 2 ∷ 3 ∷ []) (denote.Enum.Declared.tagOf Rattle.replies.proofs.Reply.the-type r)
+            → CountedBy (Bytes 0) (record { month = month; number = number; said = saidBy r } ∷ [])
+        go Done t = (refl, refl)
+        go (Value v) t = absurd (miss (0 ∷ 2 ∷ 3 ∷ []) 1 Prim.tt t)
+        go (Listed n f) t = (refl, refl)
+        go Absent t = (refl, refl)
+        go (RefusedReply r) t = absurd (miss (0 ∷ 2 ∷ 3 ∷ []) 4 Prim.tt t)
 
     pub counted-refused : (r : Refusal) → reply ≡ RefusedReply r → CountedBy (Refused r) (jobTurn a year month number)
     unfolding refusedIn firstRefusal
@@ -86,6 +93,7 @@ said-short month number (done []) l h = omega arith
 said-short month number (done (pages ∷ values)) l h =
     rw (append-nil (jobLine (job month number pages)), length-line month number pages l h)
     (omega (arith, length-decimal number, length-decimal pages))
+said-short month number (listed n f) l h = omega arith
 said-short month number absent l h = omega arith
 said-short month number (refused n) l h = omega arith
 

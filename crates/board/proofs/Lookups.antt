@@ -13,7 +13,7 @@ use Rattle.stores.specs.Written.{Written}
 use Rattle.stores.proofs.Lists.{each-zero, each-suc, some-none}
 use Rattle.stores.proofs.Written.{written-none, written-append}
 use Rattle.replies.specs.declared.Refusal.{Refusal}
-use Rattle.replies.specs.Replies.{Said, done, absent, refused, numberOf}
+use Rattle.replies.specs.Replies.{Said, done, listed, absent, refused, numberOf}
 use Rattle.board.specs.declared.count.Counted.{Counted}
 use Rattle.board.specs.declared.count.Counted.the-variants.{Bytes, Refused}
 use Rattle.board.specs.Print.{Job, jobLine, textOf, Lookup, lookup, monthLookups, yearLookups, jobFound, jobsIn, linesIn, firstRefusal, refusedIn, allNumbers}
@@ -43,6 +43,7 @@ first-behind : (s : Said) (later whole rest : Option ℕ) → (later ≡ none �
     → firstRefusal s later ≡ none → firstRefusal s whole ≡ rest
 unfolding firstRefusal
 first-behind (done vs) later whole rest h e = h e
+first-behind (listed n f) later whole rest h e = h e
 first-behind absent later whole rest h e = h e
 first-behind (refused n) later whole rest h e = absurd (some-none n e)
 
@@ -55,6 +56,7 @@ first-front : (s : Said) (later whole : Option ℕ) (n : ℕ) → (later ≡ som
     → firstRefusal s later ≡ some n → firstRefusal s whole ≡ some n
 unfolding firstRefusal
 first-front (done vs) later whole n h e = h e
+first-front (listed k f) later whole n h e = h e
 first-front absent later whole n h e = h e
 first-front (refused m) later whole n h e = e
 

@@ -8,7 +8,7 @@ use native.Mathlib.Nat.{le-refl, le-step}
 use native.Mathlib.Omega.{arith}
 use Rattle.stores.specs.Lists.{each}
 use Rattle.stores.proofs.Lists.{each-same, mem-each, each-mem}
-use Rattle.replies.specs.Replies.{Said, done, absent, refused}
+use Rattle.replies.specs.Replies.{Said, done, listed, absent, refused}
 use Rattle.rules.specs.Get.{get}
 use Rattle.rules.proofs.Lookups.{GetSays, finds, misses, no-store, no-key, broken, get-says}
 use Rattle.board.specs.Jobs.{jobKey}
@@ -87,6 +87,7 @@ module _ (a : List ℕ) (year m n : ℕ) where
       go : (s : Said) → Rising (jobFound (suc m) n s)
       go (done []) = Prim.tt
       go (done (p ∷ ps)) = ((λ k h. absurd (List·Memᴰ·not-nil h)), Prim.tt)
+      go (listed m f) = Prim.tt
       go absent = Prim.tt
       go (refused r) = Prim.tt
 

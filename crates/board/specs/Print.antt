@@ -7,7 +7,7 @@ use lib.Dec.{leb}
 use lib.ListN.{length, getD}
 use Rattle.stores.specs.Lists.{pick, each}
 use Rattle.replies.specs.declared.Refusal.the-variants.{ShortList}
-use Rattle.replies.specs.Replies.{Said, done, absent, refused, refuse}
+use Rattle.replies.specs.Replies.{Said, done, listed, absent, refused, refuse}
 use Rattle.replies.specs.Writing.{Writing, nothing, behindTests}
 use Rattle.rules.specs.Get.{get}
 use Rattle.text.specs.Parts.{tab, lineFeed}
@@ -75,6 +75,7 @@ yearLookups a year numbers = each (λ m. monthLookups a year numbers (suc m)) 12
 unfoldable pub jobFound : (month number : ℕ) → Said → List Job
 jobFound month number (done []) = []
 jobFound month number (done (pages ∷ values)) = job month number pages ∷ []
+jobFound month number (listed n f) = []
 jobFound month number absent = []
 jobFound month number (refused n) = []
 
@@ -90,6 +91,7 @@ linesIn ls = textOf (jobsIn ls)
 -- The number of the first lookup's refusal, or of the later ones' where that is none.
 unfoldable pub firstRefusal : Said → Option ℕ → Option ℕ
 firstRefusal (done values) later = later
+firstRefusal (listed n f) later = later
 firstRefusal absent later = later
 firstRefusal (refused n) later = some n
 

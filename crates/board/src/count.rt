@@ -24,10 +24,9 @@ fn count_job(words: &[u64], year: u64, month: u64, number: u64) -> Counted
     let answer = index::get(words, job_key(year, month, number));
     let reply = answer.reply;
     match reply {
-        Reply::Done => Counted::Bytes(0),
         Reply::Value(pages) => Counted::Bytes(line_length(month, number, pages)),
-        Reply::Absent => Counted::Bytes(0),
         Reply::Refused(refusal) => Counted::Refused(refusal),
+        _ => Counted::Bytes(0),
     }
 }
 

@@ -50,8 +50,7 @@ fn show(words: &[u64], year: u64) {
             io::write_all(STDOUT_FILENO, &buffer[..bytes as usize]);
         }
         Reply::Refused(refusal) => report(b"refused: ", refusal_number(refusal) as u64),
-        Reply::Done => {}
-        Reply::Absent => {}
+        _ => {}
     }
 }
 

@@ -25,10 +25,9 @@ fn write_reply(reply: Reply, out: &mut [u8], at: usize) -> usize
     ensures { λ r. ⌜ Written (replyText (saidBy reply)) at (now (out .entry)) r (now (out .exit)) ⌝ }
 {
     match reply {
-        Reply::Done => write_byte(b'0', out, at),
-        Reply::Value(_) => write_byte(b'0', out, at),
         Reply::Absent => write_byte(b'-', out, at),
         Reply::Refused(refusal) => write_decimal(refusal_number(refusal) as u64, out, at),
+        _ => write_byte(b'0', out, at),
     }
 }
 

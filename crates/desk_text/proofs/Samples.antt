@@ -6,7 +6,7 @@ use mathlib.Core.Bool.{Bool, true, _&&_}
 use mathlib.Core.List.{List, [], _∷_}
 use mathlib.Core.Option.{Option, none, some}
 use Rattle.rules.specs.declared.Call.{Call}
-use Rattle.rules.specs.declared.Call.the-variants.{Format, Get, Put, Remove, Merge, Mend, List as ListCall}
+use Rattle.rules.specs.declared.Call.the-variants.{Format, Get, Put, Remove, Merge, Mend, List as ListCall, ListBlock}
 use Rattle.stores.specs.Lists.{numbersSame}
 use Rattle.replies.specs.Replies.{Said, done, absent, refused}
 use Rattle.text.specs.Parts.{startedBy, parts, nonempty, linesOf, fieldsOf}
@@ -30,6 +30,7 @@ callNumbers (Remove key allowance) = 4 ∷ key ∷ allowance ∷ []
 callNumbers (Mend allowance) = 5 ∷ allowance ∷ []
 callNumbers ListCall = 6 ∷ []
 callNumbers (Merge key allowance) = 7 ∷ key ∷ allowance ∷ []
+callNumbers (ListBlock i) = 8 ∷ i ∷ []
 
 -- A line as numbers, its letter first.
 lineNumbers : Option Spoken → List ℕ

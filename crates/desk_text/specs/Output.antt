@@ -2,13 +2,14 @@
 -- Assumes nothing.
 use Prim.Native.Nat.{ℕ}
 use mathlib.Core.List.{List, [], _∷_, _++_}
-use Rattle.replies.specs.Replies.{Said, done, absent, refused}
+use Rattle.replies.specs.Replies.{Said, done, listed, absent, refused}
 use Rattle.text.specs.Parts.{tab, lineFeed}
 use Rattle.text.specs.Number.{decimal}
 
 -- The second field: 0 for done, `-` for absent, or the number of the refusal.
 abbrev pub replyText : Said → List ℕ
 replyText (done values) = 48 ∷ []
+replyText (listed n f) = 48 ∷ []
 replyText absent = 45 ∷ []
 replyText (refused n) = decimal n
 
@@ -17,9 +18,11 @@ unfoldable pub valuesText : List ℕ → List ℕ
 valuesText [] = []
 valuesText (v ∷ vs) = tab ∷ decimal v ++ valuesText vs
 
--- The fields behind the store count: the value of a get that found its key, or the record count of a done list.
+-- The fields behind the store count: the value of a get that found its key, or the record count of a done list. No letter stands for
+-- a list of one block, so a line of it has none.
 abbrev pub saidText : Said → List ℕ
 saidText (done values) = valuesText values
+saidText (listed n f) = []
 saidText absent = []
 saidText (refused n) = []
 

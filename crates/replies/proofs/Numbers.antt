@@ -3,7 +3,7 @@
 use Prim.Native.Nat.{_<_}
 use native.Mathlib.Omega.{arith}
 use Rattle.replies.specs.declared.Refusal.{Refusal}
-use Rattle.replies.specs.declared.Refusal.the-variants.{NoStore, NoKey, Broken, Unmended, TooDeep, NoSegment, CutOff, BadShape, TooShort, ShortList, BadYear, BadMonth, BadNumber, NoBuddy, BothLive}
+use Rattle.replies.specs.declared.Refusal.the-variants.{NoStore, NoKey, Broken, Unmended, TooDeep, NoSegment, CutOff, BadShape, TooShort, ShortList, BadYear, BadMonth, BadNumber, NoBuddy, BothLive, NoLeader}
 use Rattle.replies.specs.Replies.{numberOf}
 
 -- Each has at most two digits, and none is the code of absent in the calls for C.
@@ -23,3 +23,4 @@ number-below-100 BadMonth = omega arith
 number-below-100 BadNumber = omega arith
 number-below-100 NoBuddy = omega arith
 number-below-100 BothLive = omega arith
+number-below-100 NoLeader = omega arith

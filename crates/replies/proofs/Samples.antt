@@ -1,4 +1,5 @@
--- The numbers of the refusals, what counts as done, calls cut off, and writings behind tests. antt computes each from the definitions.
+-- The numbers of the refusals, what counts as done and as damage, which replies are the same, calls cut off, and writings behind tests.
+-- antt computes each from the definitions.
 -- Assumes nothing.
 use Prim.Native.Nat.{ℕ}
 use mathlib.Core.Path.{_≡_, refl}
@@ -8,18 +9,19 @@ use mathlib.Core.Option.{none, some}
 use lib.Dec.{eqb}
 use Rattle.stores.specs.Store.{store, apply, exec}
 use Rattle.stores.specs.Plan.{Plan, Outcome, cut}
-use Rattle.replies.specs.declared.Refusal.the-variants.{NoStore, NoKey, Broken, Unmended, TooDeep, NoSegment, CutOff, BadShape, TooShort, ShortList, BadYear, BadMonth, BadNumber, NoBuddy, BothLive}
+use Rattle.replies.specs.declared.Refusal.the-variants.{NoStore, NoKey, Broken, Unmended, TooDeep, NoSegment, CutOff, BadShape, TooShort, ShortList, BadYear, BadMonth, BadNumber, NoBuddy, BothLive, NoLeader}
+use Rattle.replies.specs.declared.Following.the-variants.{Next, Last}
 use Rattle.stores.specs.Lists.{numbersSame}
-use Rattle.replies.specs.Replies.{numberOf, Said, done, absent, refused, isDone, isRefusal, saidSame, unless, tested, changed}
+use Rattle.replies.specs.Replies.{numberOf, Said, done, listed, absent, refused, isDone, isRefusal, saysDamage, followingSame, saidSame, unless, tested, changed}
 use Rattle.replies.specs.Writing.{Writing, behindTests}
 
 pub numbers : List ℕ
 numbers =
     numberOf NoStore ∷ numberOf NoKey ∷ numberOf Broken ∷ numberOf Unmended ∷ numberOf TooDeep ∷ numberOf NoSegment ∷ numberOf CutOff
     ∷ numberOf BadShape ∷ numberOf TooShort ∷ numberOf ShortList ∷ numberOf BadYear ∷ numberOf BadMonth ∷ numberOf BadNumber
-    ∷ numberOf NoBuddy ∷ numberOf BothLive ∷ []
+    ∷ numberOf NoBuddy ∷ numberOf BothLive ∷ numberOf NoLeader ∷ []
 
-pub numbers-are : numbers ≡ 1 ∷ 2 ∷ 3 ∷ 4 ∷ 5 ∷ 6 ∷ 7 ∷ 8 ∷ 9 ∷ 10 ∷ 11 ∷ 12 ∷ 13 ∷ 14 ∷ 15 ∷ []
+pub numbers-are : numbers ≡ 1 ∷ 2 ∷ 3 ∷ 4 ∷ 5 ∷ 6 ∷ 7 ∷ 8 ∷ 9 ∷ 10 ∷ 11 ∷ 12 ∷ 13 ∷ 14 ∷ 15 ∷ 16 ∷ []
 unfolding numbers
 numbers-are = refl
 
@@ -37,16 +39,26 @@ written = record { reply = done (2 ∷ []); words = 5 ∷ 6 ∷ [] }
 writes : Writing → Said → (words : List ℕ) → Bool
 writes w said words = saidSame (w .reply) said && numbersSame (w .words) words
 
+-- What follows a block is told from anything else, and 1, 3 and 4 from other replies.
+told : Bool
+told =
+    isDone (listed 3 Last) && (saidSame (listed 3 (Next 4)) (listed 3 (Next 4)) && (saidSame (listed 3 Last) (listed 3 Last)
+    && (not (saidSame (listed 3 Last) (listed 2 Last)) && (not (saidSame (listed 3 (Next 4)) (listed 3 (Next 5)))
+    && (not (saidSame (listed 3 (Next 0)) (listed 3 Last)) && (not (saidSame (listed 3 Last) (done (3 ∷ [])))
+    && (saysDamage (refused 1) && (saysDamage (refused 3) && (saysDamage (refused 4)
+    && (not (saysDamage (refused 10)) && (not (saysDamage (refused 16)) && not (saysDamage (listed 1 Last)))))))))))))
+
 pub sample : Bool
 sample =
     (isDone (done []) && (not (isDone absent) && (not (isDone (refused 7)) && (isRefusal 7 (refused 7) && not (isRefusal 7 (refused 8))))))
+    && (told
     && (gives (changed 2 two (0 ∷ 0 ∷ [])) (done []) 2 (5 ∷ 6 ∷ [])
     && (gives (changed 1 two (0 ∷ 0 ∷ [])) (refused 7) 1 (5 ∷ 0 ∷ [])
     && (gives (changed 0 two (0 ∷ 0 ∷ [])) (refused 7) 0 (0 ∷ 0 ∷ [])
     && gives (changed 0 (tested (unless true NoKey (unless false Broken (some Unmended))) two) (0 ∷ 0 ∷ [])) (refused 3) 0 (0 ∷ 0 ∷ [])
     && (writes (behindTests (unless true ShortList none) written) (done (2 ∷ [])) (5 ∷ 6 ∷ [])
-    && writes (behindTests (unless false ShortList none) written) (refused 10) []))))
+    && writes (behindTests (unless false ShortList none) written) (refused 10) [])))))
 
 pub sample-passes : sample ≡ true
-unfolding sample two gives written writes numbersSame saidSame unless tested behindTests changed cut exec apply
+unfolding sample told two gives written writes numbersSame followingSame saidSame unless tested behindTests changed cut exec apply
 sample-passes = refl

@@ -1,10 +1,12 @@
--- Replies that the code's enum has: done, done with one value, absent, or a refusal that the call can give.
+-- Replies that the code's enum has: done, done with one value, done with the records of one block and what follows, absent, or a refusal
+-- that the call can give.
 -- Assumes nothing.
 use Prim.Native.Nat.{ℕ}
-use mathlib.Core.Path.{_≡_, refl, sym, _∙_}
-use mathlib.Core.Bool.{Bool, true, false}
+use mathlib.Core.Path.{_≡_, refl, sym, ap, _∙_}
+use mathlib.Core.Bool.{Bool, true, false, true≢false}
 use mathlib.Core.List.{List, [], _∷_}
 use mathlib.Core.Option.{Option, none, some}
+use borrow.Author.Tests.{ne-eqb}
 use lib.Dec.{leb}
 use lib.ListN.{length}
 use native.Mathlib.Omega.{arith}
@@ -13,8 +15,8 @@ use Rattle.stores.specs.Plan.{Plan, cut}
 use Rattle.replies.specs.declared.Refusal.{Refusal}
 use Rattle.replies.specs.declared.Refusal.the-variants.{CutOff}
 use Rattle.replies.specs.declared.Reply.{Reply}
-use Rattle.replies.specs.declared.Reply.the-variants.{Done, Value, Absent, Refused}
-use Rattle.replies.specs.Replies.{Said, refused, numberOf, refuse, saidBy, unless, tested, replied, changed}
+use Rattle.replies.specs.declared.Reply.the-variants.{Done, Value, Listed, Absent, Refused}
+use Rattle.replies.specs.Replies.{Said, refused, numberOf, refuse, saidBy, isRefusal, unless, tested, replied, changed}
 use Rattle.replies.specs.Writing.{Writing, behindTests}
 use Rattle.replies.proofs.Outcomes.{refused-not-done, refused-inj}
 
@@ -23,6 +25,7 @@ module _ (gives : ℕ → Bool) where
   abbrev pub Given : Reply → Type 0
   Given Done = Unit {0}
   Given (Value v) = Unit {0}
+  Given (Listed n f) = Unit {0}
   Given Absent = Unit {0}
   Given (Refused r) = gives (numberOf r) ≡ true
 
@@ -73,6 +76,17 @@ module _ (gives : ℕ → Bool) where
   unfolding changed cut
   changed-sayable n p a g s = pick-sayable (leb (length (p .due)) n) (p .reply) g s
 
+  -- What is said is no refusal that is not given.
+  pub not-given : {s : Said} (n : ℕ) → Sayable s → gives n ≡ false → isRefusal n s ≡ false
+  not-given n k e = rw (← k .says) (go (k .reply) (k .given))
+    where
+      go : (r : Reply) → Given r → isRefusal n (saidBy r) ≡ false
+      go Done g = refl
+      go (Value v) g = refl
+      go (Listed m f) g = refl
+      go Absent g = refl
+      go (Refused r) g = ne-eqb (numberOf r) n (λ q. true≢false (sym g ∙ ap gives q ∙ e))
+
   -- A refusal that is said so is given.
   pub refused-given : {s : Said} (n : ℕ) → Sayable s → s ≡ refused n → gives n ≡ true
   refused-given n k e = go (k .reply) (k .given) (k .says ∙ e)
@@ -80,5 +94,6 @@ module _ (gives : ℕ → Bool) where
       go : (r : Reply) → Given r → saidBy r ≡ refused n → gives n ≡ true
       go Done g e = absurd (refused-not-done n [] (sym e))
       go (Value v) g e = absurd (refused-not-done n (v ∷ []) (sym e))
+      go (Listed m f) g e = absurd (let z : _≡_ {A = ℕ} 0 1 = cc in omega arith)
       go Absent g e = absurd (let z : _≡_ {A = ℕ} 0 1 = cc in omega arith)
       go (Refused r) g e = rw (refused-inj e) at g

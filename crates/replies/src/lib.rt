@@ -20,13 +20,22 @@ pub enum Refusal {
     BadNumber,
     NoBuddy,
     BothLive,
+    NoLeader,
+}
+
+// What follows in a listing block by block: the block at this index, or none, since it was the last.
+pub enum Following {
+    Next(u64),
+    Last,
 }
 
 // The reply of a call: done; done with a value, which is what a get found or how many records a
-// list wrote; absent, for get and remove; or a refusal.
+// list wrote; done with how many records of one block were written, and what follows; absent, for get
+// and remove; or a refusal.
 pub enum Reply {
     Done,
     Value(u64),
+    Listed(u64, Following),
     Absent,
     Refused(Refusal),
 }
@@ -64,5 +73,6 @@ pub fn refusal_number(refusal: Refusal) -> u32
         Refusal::BadNumber => 13,
         Refusal::NoBuddy => 14,
         Refusal::BothLive => 15,
+        Refusal::NoLeader => 16,
     }
 }

@@ -8,7 +8,9 @@ use mathlib.Core.Logic.{⊎-elim}
 use borrow.Author.Tests.{eq-eqb}
 use Rattle.stores.proofs.Tests.{cases, and-true, or-right}
 use Rattle.stores.specs.Lists.{numbersSame}
-use Rattle.replies.specs.Replies.{Said, done, absent, refused, saidSame}
+use Rattle.replies.specs.declared.Following.{Following}
+use Rattle.replies.specs.declared.Following.the-variants.{Next, Last}
+use Rattle.replies.specs.Replies.{Said, done, listed, absent, refused, followingSame, saidSame}
 use Rattle.runs.specs.Map.{Map, View, formats, gets, puts, removes, mends, keeps, mapSays}
 use Rattle.runs.specs.Run.{Machine, Point, claimedAtEnd, claimed, next, finish, EachCall, GetAgrees, CallAgrees, AgreesWithMap}
 use Rattle.runs.specs.Check.{getAgrees, callsAgree, getsAgree, agrees}
@@ -18,9 +20,15 @@ unfolding numbersSame
 numbers-same [] = refl
 numbers-same (x ∷ xs) = and-true (eq-eqb x x refl) (numbers-same xs)
 
+following-same : (f : Following) → followingSame f f ≡ true
+unfolding followingSame
+following-same (Next i) = eq-eqb i i refl
+following-same Last = refl
+
 said-same : (s : Said) → saidSame s s ≡ true
 unfolding saidSame
 said-same (done xs) = numbers-same xs
+said-same (listed n f) = and-true (eq-eqb n n refl) (following-same f)
 said-same absent = refl
 said-same (refused n) = eq-eqb n n refl
 

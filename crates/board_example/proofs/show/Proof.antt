@@ -50,12 +50,6 @@ cast-report c = search needs
 report-requires-2 : tie.Need-report-requires-2
 report-requires-2 c κs = search needs
 
-enum-told : tie.Need-enum-told
-enum-told c = search needs
-
-enum-told-2 : tie.Need-enum-told-2
-enum-told-2 c = search needs
-
 returns : tie.Need-returns
 returns c = search needs
 
@@ -64,9 +58,6 @@ returns-2 c = search needs
 
 returns-3 : tie.Need-returns-3
 returns-3 c = search needs
-
-returns-4 : tie.Need-returns-4
-returns-4 c = search needs
 
 pub show-spec : {M : Type 1} → statement M
 show-spec =
@@ -85,9 +76,6 @@ show-spec =
     refusal-number-requires
     cast-report
     report-requires-2
-    enum-told
-    enum-told-2
     returns
     returns-2
-    returns-3
-    returns-4)
+    returns-3)

@@ -5,7 +5,7 @@ use lib.ListN.{length}
 use native.Mathlib.Omega.{arith}
 use borrow.Author.Needs.{needs}
 use Rattle.text.specs.Number.{decimal}
-use Rattle.desk_text.proofs.Texts.{length-refusal}
+use Rattle.desk_text.proofs.Texts.{length-refusal, reply-done}
 use Rattle.desk_run.proofs.output.write_reply.Statement.{statement}
 use Rattle.desk_run.proofs.output.write_reply.Tie as tie
 
@@ -14,18 +14,6 @@ enum-told c = search needs
 
 write-byte-requires : tie.Need-write-byte-requires
 write-byte-requires c κs = search needs
-
-enum-told-2 : tie.Need-enum-told-2
-enum-told-2 c = search needs
-
-write-byte-requires-2 : tie.Need-write-byte-requires-2
-write-byte-requires-2 c κs = search needs
-
-enum-told-3 : tie.Need-enum-told-3
-enum-told-3 c = search needs
-
-write-byte-requires-3 : tie.Need-write-byte-requires-3
-write-byte-requires-3 c κs = search needs
 
 enum-known-reply : tie.Need-enum-known-reply
 enum-known-reply c = search needs
@@ -42,6 +30,9 @@ write-decimal-requires c κs =
     let two : length (decimal (c .before .refusal-number .result)) ≤ 2 = rw number (length-refusal (c .before .before .before .reply .given .0 .0)) in
     omega arith
 
+write-byte-requires-2 : tie.Need-write-byte-requires-2
+write-byte-requires-2 c κs = search needs
+
 same-length : tie.Need-same-length
 same-length c = search needs
 
@@ -54,21 +45,14 @@ same-length-2 c = search needs
 
 returns-2 : tie.Need-returns-2
 returns-2 c =
-    rw (c .before .before .before .before .enum-told2 .given .1) (c .before .before .write-byte2 .ensures)
+    rw (c .before .before .before .before .before .before .reply .given .1, ← (c .before .before .before .before .refusal-number .ensures)) (c .before .before .write-decimal .ensures)
 
 same-length-3 : tie.Need-same-length-3
 same-length-3 c = search needs
 
 returns-3 : tie.Need-returns-3
 returns-3 c =
-    rw (c .before .before .before .before .enum-told3 .given .1) (c .before .before .write-byte3 .ensures)
-
-same-length-4 : tie.Need-same-length-4
-same-length-4 c = search needs
-
-returns-4 : tie.Need-returns-4
-returns-4 c =
-    rw (c .before .before .before .before .before .before .reply .given .1, ← (c .before .before .before .before .refusal-number .ensures)) (c .before .before .write-decimal .ensures)
+    rw (reply-done (c .before .before .before .before .before .before .args .reply) (c .before .before .before .before .match .keys3)) (c .before .before .write-byte2 .ensures)
 
 pub write-reply-spec : {M : Type 1} → statement M
 write-reply-spec =
@@ -76,19 +60,14 @@ write-reply-spec =
     (tie.spec
     enum-told
     write-byte-requires
-    enum-told-2
-    write-byte-requires-2
-    enum-told-3
-    write-byte-requires-3
     enum-known-reply
     refusal-number-requires
     cast-write-decimal
     write-decimal-requires
+    write-byte-requires-2
     same-length
     returns
     same-length-2
     returns-2
     same-length-3
-    returns-3
-    same-length-4
-    returns-4)
+    returns-3)
