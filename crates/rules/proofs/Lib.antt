@@ -3,6 +3,7 @@ pub mod Table
 pub mod States
 pub mod Samples
 pub mod MergeStates
+pub mod ListBlockStates
 pub mod Given
 pub mod Words
 pub mod Keys
@@ -24,7 +25,9 @@ pub mod Lookups
 pub mod Bound
 pub mod Full
 pub mod Range
+pub mod BlockRecords
 pub mod Listing
+pub mod ListBlock
 pub mod Agree
 pub mod Local
 pub mod OneNumber

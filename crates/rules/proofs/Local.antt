@@ -7,8 +7,8 @@ use mathlib.Core.Option.{Option, none, some}
 use mathlib.Core.Logic.{⊎-elim}
 use Prim.Native.Nat.{ℕ, suc, _+_, _/_, _^_, _≤_, _<_}
 use native.Mathlib.Omega.{arith}
-use borrow.Author.Tests.{eqb-true, not-true}
-use lib.Dec.{eqb}
+use borrow.Author.Tests.{eqb-true, not-true, ltb-true}
+use lib.Dec.{ltb, eqb}
 use lib.ListN.{length, take}
 use Rattle.stores.specs.Lists.{pick, each}
 use Rattle.stores.specs.Store.{Store, word, store, apply, exec}
@@ -18,9 +18,9 @@ use Rattle.stores.proofs.Tests.{cases, and-left}
 use Rattle.stores.proofs.Lists.{each-same, first-same, any-same}
 use Rattle.stores.proofs.Stores.{apply-same}
 use Rattle.replies.specs.declared.Refusal.{Refusal}
-use Rattle.replies.specs.declared.Refusal.the-variants.{NoStore, NoKey, Broken, Unmended, NoBuddy, BothLive}
+use Rattle.replies.specs.declared.Refusal.the-variants.{NoStore, NoKey, Broken, Unmended, NoBuddy, BothLive, NoLeader}
 use Rattle.rules.specs.declared.Call.{Call}
-use Rattle.rules.specs.declared.Call.the-variants.{Format, Get, Put, Remove, Merge, Mend, List as ListCall}
+use Rattle.rules.specs.declared.Call.the-variants.{Format, Get, Put, Remove, Merge, Mend, List as ListCall, ListBlock}
 use Rattle.rules.specs.Layout.{header, depth, maxDepth, segments, wordsFor, validHeader, entryAddress, entryAt, segmentOf, localDepth, segmentAddress, keyAt}
 use Rattle.rules.specs.Keys.{index, blockBits}
 use Rattle.rules.specs.Scan.{inRange, leader, leadersValid, entriesAgree}
@@ -33,7 +33,8 @@ use Rattle.rules.specs.Split.{doubling, halvingOf, halving, doublingFor,
 use Rattle.rules.specs.Put.{directoryTests, putTests, keyChoice, put}
 use Rattle.rules.specs.Remove.{removeTests, clearedAt, remove}
 use Rattle.rules.specs.Mend.{mendTests, mendEntry, mending, mend}
-use Rattle.rules.specs.Listing.{blockRecords, records, listTests, list}
+use Rattle.rules.specs.Listing.{blockRecords, records, listingTests, listTests, list}
+use Rattle.rules.specs.ListBlock.{leads, recordsLed, followingLed, listBlockTests, listBlock}
 use Rattle.rules.specs.Step.{Effect, changes, answers, effect, carriedOut, wordsBy, step}
 use Rattle.rules.proofs.Words.{ValidHeader, valid-header}
 use Rattle.rules.proofs.Keys.{index-lt}
@@ -43,6 +44,8 @@ use Rattle.rules.proofs.Range.{Sizes, ownSizes}
 use Rattle.rules.proofs.Halving.{keyUpdates}
 use Rattle.rules.proofs.Split.{Ready, ready, Splittable, AfterSplit, after-split}
 use Rattle.rules.proofs.Agree.{Agree, unless-same, tested-same, replied-same, writing-same, pick-same, agree-after, front-key-entry, front-key-segment, agree-front, segment-ends, word-0-same, header-same, key-same, value-same, hit-local, choose-local, value-hit-same, copying-same, live-records-same, entry-same, leader-local, leaders-same, entries-same, mend-entry-same}
+use Rattle.rules.proofs.BlockRecords.{leader-segment, leads-at}
+use Rattle.rules.proofs.Listing.{listing-passed, block-passed}
 use Rattle.rules.proofs.Merge.{joined-room, halves, left-below, right-below, merge-passed}
 use Rattle.rules.proofs.Joining.{buddy-inside}
 use Rattle.rules.proofs.Blocks.{Blocks, consistent-blocks}
@@ -199,16 +202,54 @@ mend-local {a} {b} s =
     (λ h. unless-same Broken (leaders-same s (depth a) (valid-header a h .present) (segments a) ∙ rw (word-0-same s)) (λ k. refl)))
     (λ e. rw (mending-same s (valid-header a (unless-none (validHeader a) NoStore _ e .0))))
 
+-- The tests in front of a listing, before others.
+listing-same : {a b : List ℕ} → Agree a b → {o p : Option Refusal}
+    → (validHeader a ≡ true → leadersValid a (depth a) (segments a) ≡ true → entriesAgree a (depth a) ≡ true → o ≡ p)
+    → listingTests a o ≡ listingTests b p
+unfolding listingTests
+listing-same {a} {b} s h = unless-same NoStore (header-same s) (λ v. directory-same s (valid-header a v) (h v))
+
 pub list-local : {a b : List ℕ} → Agree a b → (room : ℕ) → list a room ≡ list b room
-unfolding list listTests directoryTests
+unfolding list listTests
 list-local {a} {b} s room =
     writing-same
-    (unless-same NoStore (header-same s)
-    (λ h. directory-same s (valid-header a h) (λ k t. rw (records-local s (valid-header a h) k))))
+    (listing-same s (λ h k t. rw (records-local s (valid-header a h) k)))
+    (λ e. let p = listing-passed a _ e in rw (records-local s (valid-header a (p .valid)) (p .leaders)))
+
+-- The block that an index leads.
+module _ {a b : List ℕ} (s : Agree a b) (v : ValidHeader a) (i : ℕ) where
+  leads-same : leads a i ≡ leads b i
+  unfolding leads
+  leads-same =
+      ⊎-elim
+      (λ (t : ltb i (2 ^ depth a) ≡ true). rw (t, leader-local s (depth a) (v .present) i (ltb-true i (2 ^ depth a) t), ← word-0-same s, t))
+      (λ (t : ltb i (2 ^ depth a) ≡ false). rw (t, ← word-0-same s, t))
+      (cases (ltb i (2 ^ depth a)))
+
+  module _ (k : leadersValid a (depth a) (segments a) ≡ true) (t : leads a i ≡ true) where
+    entry-led-same : entryAt a (depth a) i ≡ entryAt b (depth b) i
+    entry-led-same = entry-same s (depth a) (v .present) i ((leads-at a i t) .below) ∙ rw (word-0-same s)
+
+    led-same : recordsLed a i ≡ recordsLed b i
+    led-same =
+        let l = leads-at a i t in
+        block-records-same s v i (entryAt a (depth a) i) (leader-segment a k i (l .below) (l .own)) ∙ rw entry-led-same
+
+    following-same : followingLed a i ≡ followingLed b i
+    following-same = rw (entry-led-same, word-0-same s)
+
+pub list-block-local : {a b : List ℕ} → Agree a b → (i room : ℕ) → listBlock a i room ≡ listBlock b i room
+unfolding listBlock listBlockTests
+list-block-local {a} {b} s i room =
+    writing-same
+    (listing-same s
+    (λ h k e.
+    let v = valid-header a h in
+    unless-same NoLeader (leads-same s v i) (λ t. rw (led-same s v i k t))))
     (λ e.
-    let t₁ = unless-none (validHeader a) NoStore _ e in
-    let t₂ = unless-none (leadersValid a (depth a) (segments a)) Broken _ (t₁ .1) in
-    rw (records-local s (valid-header a (t₁ .0)) (t₂ .0)))
+    let p = block-passed a i room e in
+    let v = valid-header a (p .valid) in
+    rw (led-same s v i (p .leaders) (p .leader), following-same s v i (p .leaders) (p .leader)))
 
 -- ---- Put
 
@@ -387,6 +428,7 @@ effect-local a b room (Remove key allowance) s = ap (changes allowance) (remove-
 effect-local a b room (Merge key allowance) s = ap (changes allowance) (merge-local s key)
 effect-local a b room (Mend allowance) s = ap (changes allowance) (mend-local s)
 effect-local a b room ListCall s = ap answers (list-local s room)
+effect-local a b room (ListBlock i) s = ap answers (list-block-local s i room)
 
 pub step-local : (a b l : List ℕ) (c : Call) → Alike a b c → SameOutcome a b (step a l c .outcome) (step b l c .outcome)
 unfolding step

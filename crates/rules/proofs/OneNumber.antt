@@ -21,7 +21,7 @@ use Rattle.replies.specs.declared.Answer.{Answer}
 use Rattle.replies.specs.Replies.{Said, done, isDone, changed}
 use Rattle.replies.proofs.Outcomes.{Complete, CutShort, changed-cut, changed-cases}
 use Rattle.rules.specs.declared.Call.{Call}
-use Rattle.rules.specs.declared.Call.the-variants.{Format, Get, Put, Remove, Merge, Mend, List as ListCall}
+use Rattle.rules.specs.declared.Call.the-variants.{Format, Get, Put, Remove, Merge, Mend, List as ListCall, ListBlock}
 use Rattle.rules.specs.Layout.{maxDepth, segments, localDepth, keyAddress, valueAddress}
 use Rattle.rules.specs.Slots.{Choice, found, into, hit, choose}
 use Rattle.rules.specs.Get.{keyEntry, keySegment}
@@ -59,6 +59,7 @@ more-effect a room (Remove key allowance) = refl
 more-effect a room (Merge key allowance) = refl
 more-effect a room (Mend allowance) = refl
 more-effect a room ListCall = refl
+more-effect a room (ListBlock i) = refl
 
 carried-more : (e : Effect) (a : List ℕ) → DifferAt (nextAddress e) ((carriedOut e a) .after) ((carriedOut (moreAllowed e) a) .after)
 unfolding changed cut

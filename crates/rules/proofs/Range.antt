@@ -21,7 +21,7 @@ use Rattle.stores.proofs.Plans.{after-cut, length-cut}
 use Rattle.replies.specs.declared.Refusal.{Refusal}
 use Rattle.replies.specs.declared.Refusal.the-variants.{NoStore, CutOff, BadShape}
 use Rattle.rules.specs.declared.Call.{Call}
-use Rattle.rules.specs.declared.Call.the-variants.{Format, Get, Put, Remove, Merge, Mend, List as ListCall}
+use Rattle.rules.specs.declared.Call.the-variants.{Format, Get, Put, Remove, Merge, Mend, List as ListCall, ListBlock}
 use Rattle.rules.specs.Keys.{index}
 use Rattle.rules.specs.Layout.{header, depth, maxDepth, segments, wordsFor, validShape, validHeader, entryAddress, entryAt, segmentOf, segmentAddress, keyAddress, valueAddress}
 use Rattle.rules.specs.Scan.{leadingEntry}
@@ -176,6 +176,7 @@ ownSizes (Remove key allowance) = none
 ownSizes (Merge key allowance) = none
 ownSizes (Mend allowance) = none
 ownSizes ListCall = none
+ownSizes (ListBlock i) = none
 
 -- The number of words that a call may touch, from word 0 on: those that its own D and S take, else those of word 0.
 abbrev pub extentOf : List ℕ → Option Sizes → ℕ
@@ -200,6 +201,7 @@ effect-range a room (Remove key allowance) = remove-range a key
 effect-range a room (Merge key allowance) = merge-range a key
 effect-range a room (Mend allowance) = mend-range a
 effect-range a room ListCall = Prim.tt
+effect-range a room (ListBlock i) = Prim.tt
 
 carried-untouched : (e : Effect) (a : List ℕ) (end i : ℕ) → Every (λ s. s .at < end) (dueBy e) → end ≤ i → word ((carriedOut e a) .after) i ≡ word a i
 unfolding changed

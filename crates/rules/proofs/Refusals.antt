@@ -1,4 +1,4 @@
--- Refusals 1 to 4, 8 to 10, 14 and 15 make no store and change no word, on every array. For put: where its tests pass, they pass again
+-- Refusals 1 to 4, 8 to 10 and 14 to 16 make no store and change no word, on every array. For put: where its tests pass, they pass again
 -- after a split, so that 1 to 4 are given before the first store or not at all.
 -- Assumes nothing.
 use mathlib.Core.Path.{_≡_, refl, sym, ap, _∙_}
@@ -25,7 +25,7 @@ use Rattle.rules.specs.Put.{directoryTests, putTests, put}
 use Rattle.replies.specs.Replies.{Said, refused, numberOf, unless, tested, changed}
 use Rattle.replies.specs.declared.Refusal.{Refusal}
 use Rattle.rules.specs.declared.Call.{Call}
-use Rattle.rules.specs.declared.Call.the-variants.{Format, Get, Put, Remove, Merge, Mend, List as ListCall}
+use Rattle.rules.specs.declared.Call.the-variants.{Format, Get, Put, Remove, Merge, Mend, List as ListCall, ListBlock}
 use Rattle.rules.specs.Format.{formatTests, format}
 use Rattle.rules.specs.Slots.{hit}
 use Rattle.rules.specs.Remove.{removeTests, clearedAt, remove}
@@ -239,6 +239,7 @@ refusal-empty a room (Remove key allowance) n which =
 refusal-empty a room (Merge key allowance) n which = tested-empty (mergeTests a key) _ n (λ e. refused-not-done n [] (sym e))
 refusal-empty a room (Mend allowance) n which = tested-empty (mendTests a) _ n (λ e. refused-not-done n [] (sym e))
 refusal-empty a room ListCall n which = λ e. refl
+refusal-empty a room (ListBlock i) n which = λ e. refl
 
 -- A refusal other than 5, 6 and 7 makes no store and changes no word.
 pub refusal-unchanged : (a l : List ℕ) (c : Call) (n : ℕ) → step a l c .outcome .reply ≡ refused n → (n ≤ 4) ⊎ (8 ≤ n)

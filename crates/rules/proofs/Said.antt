@@ -1,5 +1,5 @@
--- Every reply of every call, on every array, is one that the code's enum has: done, done with one value, absent, or one of the
--- refusals that document 01's table lists for that call.
+-- Every reply of every call, on every array, is one that the code's enum has: done, done with one value or with what a list of one block
+-- says, absent, or one of the refusals that the documents list for that call.
 -- Assumes nothing.
 use Prim.Native.Nat.{ℕ, zero, suc, _<_}
 use mathlib.Core.Path.{_≡_, refl, sym}
@@ -13,10 +13,10 @@ use lib.ListN.{length}
 use Rattle.stores.specs.Plan.{Plan}
 use Rattle.stores.proofs.Tests.{and-left, and-right, or-cases}
 use Rattle.replies.specs.declared.Refusal.{Refusal}
-use Rattle.replies.specs.declared.Refusal.the-variants.{NoStore, NoKey, Broken, Unmended, TooDeep, NoSegment, BadShape, TooShort, ShortList, NoBuddy, BothLive}
-use Rattle.replies.specs.declared.Reply.the-variants.{Done, Value, Absent, Refused}
+use Rattle.replies.specs.declared.Refusal.the-variants.{NoStore, NoKey, Broken, Unmended, TooDeep, NoSegment, BadShape, TooShort, NoBuddy, BothLive, NoLeader}
+use Rattle.replies.specs.declared.Reply.the-variants.{Done, Value, Listed, Absent, Refused}
 use Rattle.rules.specs.declared.Call.{Call}
-use Rattle.rules.specs.declared.Call.the-variants.{Format, Get, Put, Remove, Merge, Mend, List as ListCall}
+use Rattle.rules.specs.declared.Call.the-variants.{Format, Get, Put, Remove, Merge, Mend, List as ListCall, ListBlock}
 use Rattle.replies.specs.Replies.{Said, refused}
 use Rattle.replies.proofs.Sayable.{GivenBy, Sayable, by, unless-given, tested-sayable, replied-sayable, writing-sayable, changed-sayable, refused-given}
 use Rattle.rules.specs.Layout.{validShape, wordsFor, validHeader, depth, segments}
@@ -29,10 +29,12 @@ use Rattle.rules.specs.Put.{directoryTests, putTests, keyChoice, placed,
 use Rattle.rules.specs.Remove.{removeTests, clearedAt, remove}
 use Rattle.rules.specs.Merge.{hasBuddy, bothLiveAt, halvesTests, mergeTests, merge}
 use Rattle.rules.specs.Mend.{mendTests, mend}
-use Rattle.rules.specs.Listing.{listTests, list}
+use Rattle.rules.specs.Listing.{records, listingTests, listTests, list}
+use Rattle.rules.specs.ListBlock.{leads, recordsLed, listBlockTests, listBlock}
 use Rattle.rules.specs.Step.{Effect, changes, answers, effect, carriedOut, step}
 use Rattle.rules.specs.Given.{refusalsOf, has, gives}
 use Rattle.rules.proofs.Refusals.{replyBy}
+use Rattle.rules.proofs.Listing.{room-given}
 
 -- ---- The tests in front of several calls
 
@@ -46,6 +48,10 @@ module _ (may : ℕ → Bool) (a : List ℕ) where
   unfolding directoryTests
   directory-given later g₃ g₄ k =
       unless-given may (leadersValid a (depth a) (segments a)) Broken _ g₃ (unless-given may (entriesAgree a (depth a)) Unmended later g₄ k)
+
+  listing-given : (later : Option Refusal) → may 1 ≡ true → may 3 ≡ true → may 4 ≡ true → GivenBy may later → GivenBy may (listingTests a later)
+  unfolding listingTests
+  listing-given later g₁ g₃ g₄ k = unless-given may (validHeader a) NoStore _ g₁ (directory-given later g₃ g₄ k)
 
 -- ---- The calls
 
@@ -104,9 +110,10 @@ cut-given a room (Remove key allowance) = refl
 cut-given a room (Merge key allowance) = refl
 cut-given a room (Mend allowance) = refl
 cut-given a room ListCall = Prim.tt
+cut-given a room (ListBlock i) = Prim.tt
 
 effect-sayable : (a : List ℕ) (room : ℕ) (call : Call) → Sayable (gives call) (replyBy (effect a room call))
-unfolding effect format formatTests get getTests entryTests put remove removeTests merge mergeTests halvesTests mend mendTests list listTests gives refusalsOf has
+unfolding effect format formatTests get getTests entryTests put remove removeTests merge mergeTests halvesTests mend mendTests list listTests listBlock listBlockTests gives refusalsOf has
 effect-sayable a room (Format D S allowance) =
     let may = gives (Format D S allowance) in
     tested-sayable may _ _
@@ -138,10 +145,12 @@ effect-sayable a room (Mend allowance) =
     (by may Done Prim.tt)
 effect-sayable a room ListCall =
     let may = gives ListCall in
+    writing-sayable may _ _ (listing-given may a _ refl refl refl (room-given may (records a) room refl)) (by may (Value _) Prim.tt)
+effect-sayable a room (ListBlock i) =
+    let may = gives (ListBlock i) in
     writing-sayable may _ _
-    (unless-given may (validHeader a) NoStore _ refl
-    (directory-given may a _ refl refl (unless-given may (leb _ room) ShortList none refl Prim.tt)))
-    (by may (Value _) Prim.tt)
+    (listing-given may a _ refl refl refl (unless-given may (leads a i) NoLeader _ refl (room-given may (recordsLed a i) room refl)))
+    (by may (Listed _ _) Prim.tt)
 
 pub step-sayable : (a l : List ℕ) (call : Call) → Sayable (gives call) ((step a l call) .outcome .reply)
 unfolding step
@@ -166,6 +175,7 @@ apart (Remove key allowance) = refl
 apart (Merge key allowance) = refl
 apart (Mend allowance) = refl
 apart ListCall = refl
+apart (ListBlock i) = refl
 
 has-apart : (xs : List ℕ) (n : ℕ) → allApart xs ≡ true → has xs n ≡ true → ltb n 11 || ltb 13 n ≡ true
 unfolding allApart has

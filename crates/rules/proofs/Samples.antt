@@ -10,7 +10,7 @@ use lib.ListN.{length, replicate}
 use Rattle.stores.specs.Lists.{each}
 use Rattle.stores.specs.Store.{Store, store}
 use Rattle.rules.specs.declared.Call.{Call}
-use Rattle.rules.specs.declared.Call.the-variants.{Format, Get, Put, Remove, Mend}
+use Rattle.rules.specs.declared.Call.the-variants.{Format, Get, Put, Remove, Mend, List as ListCall}
 use Rattle.replies.specs.Replies.{Said, done, absent, refused}
 use Rattle.rules.proofs.Table.{Names, Lookup, Row, buckets, indexed, state, listing, oneMoreAllowed, otherValue, allPass}
 use Rattle.rules.proofs.States.{F, P, fill, stands, names, page, missing, pages, row, sixteen, P263, P1030}
@@ -76,26 +76,30 @@ damaged damage call said made words entries lookups =
 
 -- ---- Listings
 
--- A list into words that are 5 each: it is to leave `words` in front, and behind them as many words as they were, `behind`.
+-- A listing into words that are 5 each: it is to leave `words` in front, and behind them as many words as they were, `behind`.
+abbrev pub listedBy : Call → List Call → List Store → Said → (words : List ℕ) → (behind : ℕ) → Row
+listedBy call before damage said words behind =
+    listing 528 before damage call (replicate (length words + behind) 5) said (words ++ replicate behind 5)
+
+-- A list.
 abbrev listed : List Call → List Store → Said → (words : List ℕ) → (behind : ℕ) → Row
-listed before damage said words behind =
-    listing 528 before damage (replicate (length words + behind) 5) said (words ++ replicate behind 5)
+listed = listedBy ListCall
 
 -- A list that is refused, into `room` words.
 abbrev unlisted : List Call → List Store → (n room : ℕ) → Row
 unlisted before damage n room = listed before damage (refused n) [] room
 
 -- The words of n pages, of the keys `first`, `first + by` and so on.
-abbrev pageWords : (first by n : ℕ) → List ℕ
+abbrev pub pageWords : (first by n : ℕ) → List ℕ
 pageWords first by n = each (λ i. (first + by * i) ∷ 10 * (first + by * i) ∷ []) n
 
 -- An index of D = 3, S = 4 with blocks of depth 3, 3, 2 and 1, from the left, made by three splits: they name segments 0, 3, 2
 -- and 1. Sixteen pages stand in the first, then two, one and two.
-abbrev threeDepths : List Call
+abbrev pub threeDepths : List Call
 threeDepths = Format 3 4 10000 ∷ fill 7 128 8 ++ fill 1030 128 8 ++ (P 2053 ∷ P 67 ∷ P 449 ∷ P 37 ∷ P 146 ∷ P 25 ∷ [])
 
 -- In an index of D = 3: entry i of the directory of depth 3, which starts at word 8, and the page of a key in slot j of segment s.
-abbrev entry₃ : (i s L : ℕ) → Store
+abbrev pub entry₃ : (i s L : ℕ) → Store
 entry₃ i s L = store (8 + i) (s + 0x100000000 * L)
 
 abbrev slotOf : (s j key : ℕ) → List Store
@@ -103,7 +107,7 @@ slotOf s j key = store (16 + 128 * s + 2 * j) key ∷ store (17 + 128 * s + 2 * 
 
 -- Blocks of depth 1, 2, 3 and 3, from the left, that name segments 2, 0, 3 and 1. In segment 2 slot 12 has a key of the right half:
 -- it is stale there.
-abbrev mixedOrders : List Store
+abbrev pub mixedOrders : List Store
 mixedOrders =
     word₀ 3 3 4 ∷ entry₃ 0 2 1 ∷ entry₃ 1 2 1 ∷ entry₃ 2 2 1 ∷ entry₃ 3 2 1 ∷ entry₃ 4 0 2 ∷ entry₃ 5 0 2 ∷ entry₃ 6 3 3
     ∷ entry₃ 7 1 3

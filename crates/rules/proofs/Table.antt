@@ -1,7 +1,7 @@
 -- A table of facts about the definitions, as data, and the test that a row passes.
 -- Assumes nothing.
 use Prim.Native.Nat.{ℕ, suc}
-use mathlib.Core.Bool.{Bool, true, _&&_}
+use mathlib.Core.Bool.{Bool, true, false, _&&_}
 use mathlib.Core.List.{List, [], _∷_}
 use mathlib.Core.Option.{Option, none, some, orElse}
 use lib.Dec.{eqb}
@@ -11,7 +11,7 @@ use Rattle.stores.specs.Store.{Store, word, apply, exec}
 use Rattle.stores.specs.Plan.{Outcome, cut}
 use Rattle.stores.specs.Difference.{addressBehind}
 use Rattle.rules.specs.declared.Call.{Call}
-use Rattle.rules.specs.declared.Call.the-variants.{Put, List as ListCall}
+use Rattle.rules.specs.declared.Call.the-variants.{Put}
 use Rattle.rules.specs.Layout.{depthIn, maxDepthIn, segmentsIn, markIn, header, depth, wordsFor, validShape, validHeader, entryAddress, entryAt, segmentOf, localDepth, entry, segmentAddress}
 use Rattle.rules.specs.Keys.{folded, bucket, directoryBits, bitOf, firstBits, bit, index, width, blockBits, blockStart, live, windowBucket, slotsOf, window}
 use Rattle.rules.specs.Scan.{inRange, validLeader, nextLeader, leader, leadersValid, entriesAgree}
@@ -25,8 +25,10 @@ use Rattle.rules.specs.Put.{directoryTests, putTests, keyChoice, placed,
 use Rattle.rules.specs.Remove.{removeTests, clearedAt, remove}
 use Rattle.rules.specs.Merge.{rightStart, onRight, buddyStart, joinedDepth, buddyEntry, leftEntry, rightEntry, bothLive, mergeRecord, mergeSlot, mergingSlots, joining, hasBuddy, halvesTests, mergeTests, mergingOf, merge}
 use Rattle.rules.specs.Mend.{mendTests, mendEntry, mending, mend}
-use Rattle.rules.specs.Listing.{liveRecord, blockRecords, records, wordsOf, listTests, list}
+use Rattle.rules.specs.Listing.{liveRecord, blockRecords, records, wordsOf, listingTests, roomTest, listTests, list}
+use Rattle.rules.specs.ListBlock.{leads, following, listBlockTests, listBlock}
 use Rattle.rules.specs.Step.{effect, Step, step, outcomeOf}
+use Rattle.rules.specs.JoinedListing.{inFront, gatheredFrom, gather}
 use Rattle.rules.specs.OneNumber.{oneMore, nextAddress, valueWord}
 
 -- ---- Rows
@@ -52,8 +54,11 @@ pub data Row : Type 0 where
   behind : (lent : ℕ) (before : List Call) (damage : List Store) (further : List Call) (call : Call) (said : Said) (made : ℕ)
       (words : List Store) (entries : List Names) (lookups : List Lookup)
       → Row
-  -- A listing, behind calls and damage: a list into the list array `list`. It is to say `said` with no store, and to leave `left` there.
-  listing : (lent : ℕ) (before : List Call) (damage : List Store) (list : List ℕ) (said : Said) (left : List ℕ) → Row
+  -- A listing, behind calls and damage: `call` into the list array `list`. It is to say `said` with no store, and to leave `left` there.
+  listing : (lent : ℕ) (before : List Call) (damage : List Store) (call : Call) (list : List ℕ) (said : Said) (left : List ℕ) → Row
+  -- The listings of one block, joined: from index 0 on, with `calls` calls at most and `room` words, these parts are to be gathered; no
+  -- parts where a call is refused or the last block does not come.
+  gathers : (lent : ℕ) (before : List Call) (damage : List Store) (calls room : ℕ) (parts : List (List ℕ)) → Row
   -- A call with its allowance and with one larger by one, behind the same. The address of the store that one more allows is to be
   -- `next`, nothing where there is none; the arrays left are to differ at the addresses `apart` and at no other.
   oneMoreAllowed : (lent : ℕ) (before : List Call) (damage : List Store) (call : Call) (next apart : List ℕ) → Row
@@ -71,7 +76,7 @@ state lent before damage call said made words entries lookups = behind lent befo
 
 -- A step that antt computes: an `unfolding` line that names it opens all definitions of the calls.
 unfoldable pub computed : (a l : List ℕ) → Call → Step
-unfolding each firstIn allBelow anyBelow apply exec cut depthIn maxDepthIn segmentsIn markIn header wordsFor validShape validHeader entryAddress segmentOf localDepth entry segmentAddress folded bucket directoryBits bitOf firstBits bit index width blockBits blockStart live windowBucket slotsOf window inRange validLeader nextLeader leader leadersValid entriesAgree hit isEmpty isStale orElse slotForNew chosen choose named freeSegment unless tested replied formatTests formatStores format keyEntry keySegment keyTests entryTests getTests valueAtHit get doubling moves copySlot copying halfEntry updating halvingOf halving doublingFor splitting directoryTests putTests keyChoice placed intoFree putUnused unused put removeTests clearedAt remove rightStart onRight buddyStart joinedDepth buddyEntry leftEntry rightEntry bothLive mergeRecord mergeSlot mergingSlots joining hasBuddy halvesTests mergeTests mergingOf merge mendTests mendEntry mending mend liveRecord blockRecords records wordsOf listTests list behindTests changed effect step
+unfolding each firstIn allBelow anyBelow apply exec cut depthIn maxDepthIn segmentsIn markIn header wordsFor validShape validHeader entryAddress segmentOf localDepth entry segmentAddress folded bucket directoryBits bitOf firstBits bit index width blockBits blockStart live windowBucket slotsOf window inRange validLeader nextLeader leader leadersValid entriesAgree hit isEmpty isStale orElse slotForNew chosen choose named freeSegment unless tested replied formatTests formatStores format keyEntry keySegment keyTests entryTests getTests valueAtHit get doubling moves copySlot copying halfEntry updating halvingOf halving doublingFor splitting directoryTests putTests keyChoice placed intoFree putUnused unused put removeTests clearedAt remove rightStart onRight buddyStart joinedDepth buddyEntry leftEntry rightEntry bothLive mergeRecord mergeSlot mergingSlots joining hasBuddy halvesTests mergeTests mergingOf merge mendTests mendEntry mending mend liveRecord blockRecords records wordsOf listingTests roomTest listTests list leads following listBlockTests listBlock behindTests changed effect step
 computed a l call = step a l call
 
 -- The array after some calls, each made with no list array.
@@ -102,6 +107,16 @@ listPasses : Step → Said → (left : List ℕ) → Bool
 listPasses s said left =
     (saidSame (s .outcome .reply) said && eqb (s .outcome .made) 0)
     && numbersSame (s .list) left
+
+partsSame : (xs ys : List (List ℕ)) → Bool
+partsSame [] [] = true
+partsSame [] (y ∷ ys) = false
+partsSame (x ∷ xs) [] = false
+partsSame (x ∷ xs) (y ∷ ys) = numbersSame x y && partsSame xs ys
+
+partsGathered : Option (List (List ℕ)) → List (List ℕ) → Bool
+partsGathered none parts = partsSame [] parts
+partsGathered (some found) parts = partsSame found parts
 
 -- The addresses, from i on, at which two arrays differ; beyond the shorter one all of the longer one's.
 differing : (i : ℕ) → (x y : List ℕ) → List ℕ
@@ -137,8 +152,9 @@ passes (buckets key bs) = numbersSame (windowBuckets key) bs
 passes (indexed g key i) = eqb (index key g) i
 passes (behind lent before damage further call said made words entries lookups) =
     outcomePasses (outcomeOf (afterCalls (prepared lent before damage) further) call) said made words entries lookups
-passes (listing lent before damage list said left) =
-    listPasses (step (prepared lent before damage) list ListCall) said left
+passes (listing lent before damage call list said left) = listPasses (step (prepared lent before damage) list call) said left
+passes (gathers lent before damage calls room parts) =
+    partsGathered (gather (prepared lent before damage) calls 0 (replicate room 5)) parts
 passes (oneMoreAllowed lent before damage call next apart) =
     let a : List ℕ = prepared lent before damage in
     numbersSame (ifAny (nextAddress (effect a 0 call))) next
@@ -149,6 +165,6 @@ passes (otherValue lent before damage key v w allowance apart) =
 
 -- Every row of the table passes.
 unfoldable pub allPass : List Row → Bool
-unfolding computed numbersSame saidSame afterCalls wordsSeen entriesSeen lookupsSeen outcomePasses listPasses addressBehind differing ifAny valueApart otherPasses prepared windowBuckets passes
+unfolding computed numbersSame saidSame afterCalls wordsSeen entriesSeen lookupsSeen outcomePasses listPasses inFront gatheredFrom gather partsSame partsGathered addressBehind differing ifAny valueApart otherPasses prepared windowBuckets passes
 allPass [] = true
 allPass (r ∷ rs) = passes r && allPass rs

@@ -5,7 +5,7 @@ use mathlib.Core.Bool.{Bool, false, _||_}
 use mathlib.Core.List.{List, [], _∷_}
 use lib.Dec.{eqb}
 use Rattle.rules.specs.declared.Call.{Call}
-use Rattle.rules.specs.declared.Call.the-variants.{Format, Get, Put, Remove, Merge, Mend, List as ListCall}
+use Rattle.rules.specs.declared.Call.the-variants.{Format, Get, Put, Remove, Merge, Mend, List as ListCall, ListBlock}
 
 -- The numbers of the refusals that a call can give.
 unfoldable pub refusalsOf : Call → List ℕ
@@ -16,6 +16,7 @@ refusalsOf (Remove key allowance) = 1 ∷ 2 ∷ 3 ∷ 4 ∷ 7 ∷ []
 refusalsOf (Merge key allowance) = 1 ∷ 2 ∷ 3 ∷ 4 ∷ 7 ∷ 14 ∷ 15 ∷ []
 refusalsOf (Mend allowance) = 1 ∷ 3 ∷ 7 ∷ []
 refusalsOf ListCall = 1 ∷ 3 ∷ 4 ∷ 10 ∷ []
+refusalsOf (ListBlock i) = 1 ∷ 3 ∷ 4 ∷ 10 ∷ 16 ∷ []
 
 -- The list has the number n.
 unfoldable pub has : List ℕ → (n : ℕ) → Bool

@@ -11,8 +11,10 @@ pub mod Remove
 pub mod Merge
 pub mod Mend
 pub mod Listing
+pub mod ListBlock
 pub mod Step
 pub mod SameListing
+pub mod JoinedListing
 pub mod OneNumber
 pub mod Finished
 pub mod Given

@@ -40,10 +40,17 @@ unfoldable pub wordsOf : List Record → List ℕ
 wordsOf [] = []
 wordsOf (r ∷ rs) = r .key ∷ r .value ∷ wordsOf rs
 
+-- The tests in front of a listing: 1, 3, 4, and those after them.
+unfoldable pub listingTests : List ℕ → Option Refusal → Option Refusal
+listingTests a later = unless (validHeader a) NoStore (directoryTests a later)
+
+-- The test for 10: the records have room in a list array of `room` words.
+unfoldable pub roomTest : List Record → (room : ℕ) → Option Refusal
+roomTest rs room = unless (leb (2 * length rs) room) ShortList none
+
 -- The tests of list, with a list array of `room` words: 1, 3, 4, then 10.
 unfoldable pub listTests : List ℕ → (room : ℕ) → Option Refusal
-listTests a room =
-    unless (validHeader a) NoStore (directoryTests a (unless (leb (2 * length (records a)) room) ShortList none))
+listTests a room = listingTests a (roomTest (records a) room)
 
 -- What a list says and writes: the number of records, and the records, in their order.
 unfoldable pub list : List ℕ → (room : ℕ) → Writing

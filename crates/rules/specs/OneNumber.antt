@@ -14,7 +14,7 @@ use Rattle.stores.specs.Difference.{SameBut, DifferAt, addressBehind}
 use Rattle.replies.specs.declared.Answer.{Answer}
 use Rattle.replies.specs.Replies.{Said, done, refused, isDone, saidBy}
 use Rattle.rules.specs.declared.Call.{Call}
-use Rattle.rules.specs.declared.Call.the-variants.{Format, Get, Put, Remove, Merge, Mend, List as ListCall}
+use Rattle.rules.specs.declared.Call.the-variants.{Format, Get, Put, Remove, Merge, Mend, List as ListCall, ListBlock}
 use Rattle.rules.specs.Layout.{valueAddress}
 use Rattle.rules.specs.Slots.{Choice, found, into, full}
 use Rattle.rules.specs.Get.{keySegment}
@@ -28,7 +28,7 @@ pub record AtMostOneWord (x y : List ℕ) : Type 0 where
 
 -- ---- The allowance
 
--- The same call with an allowance larger by one. A get and a list have no allowance.
+-- The same call with an allowance larger by one. A get and the listings have no allowance.
 abbrev pub oneMore : Call → Call
 oneMore (Format D S allowance) = Format D S (suc allowance)
 oneMore (Get key) = Get key
@@ -37,6 +37,7 @@ oneMore (Remove key allowance) = Remove key (suc allowance)
 oneMore (Merge key allowance) = Merge key (suc allowance)
 oneMore (Mend allowance) = Mend (suc allowance)
 oneMore ListCall = ListCall
+oneMore (ListBlock i) = ListBlock i
 
 -- The word that one store more can change, where a call may make n: the address of its store number n + 1. None where no more is due.
 abbrev pub nextAddress : Effect → Option ℕ

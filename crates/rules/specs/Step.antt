@@ -9,7 +9,7 @@ use Rattle.stores.specs.Plan.{Plan, Outcome}
 use Rattle.stores.specs.Written.{atFront}
 use Rattle.replies.specs.declared.Answer.{Answer}
 use Rattle.rules.specs.declared.Call.{Call}
-use Rattle.rules.specs.declared.Call.the-variants.{Format, Get, Put, Remove, Merge, Mend, List as ListCall}
+use Rattle.rules.specs.declared.Call.the-variants.{Format, Get, Put, Remove, Merge, Mend, List as ListCall, ListBlock}
 use Rattle.replies.specs.Replies.{Said, changed}
 use Rattle.replies.specs.Writing.{Writing, nothing}
 use Rattle.replies.specs.Answered.{Answered}
@@ -20,6 +20,7 @@ use Rattle.rules.specs.Remove.{remove}
 use Rattle.rules.specs.Merge.{merge}
 use Rattle.rules.specs.Mend.{mend}
 use Rattle.rules.specs.Listing.{list}
+use Rattle.rules.specs.ListBlock.{listBlock}
 
 -- ---- What a call does
 
@@ -39,6 +40,7 @@ effect a room (Remove key allowance) = changes allowance (remove a key)
 effect a room (Merge key allowance) = changes allowance (merge a key)
 effect a room (Mend allowance) = changes allowance (mend a)
 effect a room ListCall = answers (list a room)
+effect a room (ListBlock i) = answers (listBlock a i room)
 
 -- The call is one that lists: it is lent a list array and writes to it.
 abbrev pub lists : Call → Bool
@@ -49,6 +51,7 @@ lists (Remove key allowance) = false
 lists (Merge key allowance) = false
 lists (Mend allowance) = false
 lists ListCall = true
+lists (ListBlock i) = true
 
 -- ---- What it says and leaves
 

@@ -28,4 +28,7 @@ pub enum Call {
         allowance: u32,
     },
     List,
+    ListBlock {
+        index: u64,
+    },
 }
