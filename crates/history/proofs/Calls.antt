@@ -4,12 +4,12 @@ use mathlib.Core.Path.{_≡_, refl, sym, ap, _∙_}
 use mathlib.Core.Bool.{Bool, true, false, false≢true}
 use mathlib.Core.List.{List, [], _∷_}
 use mathlib.Core.Option.{Option, none, some}
-use mathlib.Core.Logic.{_⊎_, inl, inr, ⊎-elim}
-use Prim.Native.Nat.{ℕ, zero, _*_}
+use mathlib.Core.Logic.{⊎-elim}
+use Prim.Native.Nat.{ℕ, zero}
 use native.Mathlib.Nat.{le-refl, not-suc-le-zero}
 use native.Mathlib.Omega.{arith}
 use borrow.Author.Tests.{eqb-true, eqb-false, not-true}
-use lib.Dec.{leb, eqb}
+use lib.Dec.{eqb}
 use lib.ListN.{length}
 use Rattle.stores.specs.Store.{store, apply}
 use Rattle.stores.specs.Plan.{Plan, reply-only}
@@ -20,22 +20,24 @@ use Rattle.replies.specs.declared.Refusal.the-variants.{NoKey}
 use Rattle.rules.specs.Layout.{segmentAddress, segmentOf, entryAt, keyAddress}
 use Rattle.rules.specs.Keys.{index}
 use Rattle.rules.specs.Slots.{hit}
-use Rattle.replies.specs.Replies.{Said, done, absent, refused, refuse, unless, tested, replied, changed, isDone, isRefusal}
-use Rattle.replies.specs.Writing.{behindTests}
+use Rattle.replies.specs.Replies.{Said, done, listed, absent, refused, refuse, unless, tested, replied, changed, isDone, isRefusal, saysDamage}
 use Rattle.rules.specs.Format.{formatTests, format}
 use Rattle.rules.specs.Get.{keySegment, keyTests, entryTests, getTests, get}
 use Rattle.rules.specs.Put.{putTests, put}
 use Rattle.rules.specs.Remove.{removeTests, clearedAt, remove}
 use Rattle.rules.specs.Merge.{mergeTests, merge}
 use Rattle.rules.specs.Mend.{mending, mend}
-use Rattle.rules.specs.Listing.{records, listTests, list}
+use Rattle.rules.specs.Listing.{listingTests, list}
+use Rattle.rules.specs.ListBlock.{listBlock}
+use Rattle.rules.specs.Given.{has}
+use Rattle.replies.proofs.Sayable.{Sayable, not-given}
+use Rattle.rules.proofs.Listing.{late, list-late, list-block-late}
 use Rattle.rules.proofs.Words.{header-valid}
 use Rattle.rules.proofs.Keys.{index-lt}
 use Rattle.replies.proofs.Outcomes.{Complete, CutShort, changed-cases, refused-not-done, refused-inj, tested-none, tested-some, replied-none}
 use Rattle.rules.proofs.Put.{put-refused}
 use Rattle.runs.specs.Map.{Map, formats, gets, puts, removes, mends, keeps, fed, updated, mapSays}
 use Rattle.runs.specs.Run.{Point, isRecovery, mayFollow, claimed}
-use Rattle.history.specs.Further.{saysDamage}
 use Rattle.history.proofs.Holds.{holds-found}
 use Rattle.history.proofs.Invariant.{Inv, Recovered, live-own, block-changed, block-recovered, shape-valid}
 use Rattle.history.proofs.Recover.{inv-key-segment, inv-get-tests, inv-directory-tests, inv-remove-tests, inv-mend-tests}
@@ -95,30 +97,30 @@ get-kept p good key =
     (λ c. says) (rw says (map-says-no-damage (p .map key))))
     (cases (eqb key 0))
 
--- ---- List
+-- ---- The listings
 
--- Where recovery is not needed, a list says how many records there are, or 10.
-list-says : {m : Map} {g d S : ℕ} {f : ℕ → ℕ} {a : List ℕ} → Inv m g d S f a → Recovered g f a → (room : ℕ)
-    → ((list a room) .reply ≡ done (length (records a) ∷ [])) ⊎ ((list a room) .reply ≡ refused 10)
-unfolding list listTests behindTests unless
-list-says {a = a} inv same room =
-    ⊎-elim
-    (λ (t : leb (2 * length (records a)) room ≡ true).
-    inl (rw (header-valid (shape-valid (inv .shape)), inv-directory-tests inv _ same, t)))
-    (λ (t : leb (2 * length (records a)) room ≡ false).
-    inr (rw (header-valid (shape-valid (inv .shape)), inv-directory-tests inv _ same, t)))
-    (cases (leb (2 * length (records a)) room))
+-- Where recovery is not needed, the tests in front of a listing pass.
+listing-passes : {m : Map} {g d S : ℕ} {f : ℕ → ℕ} {a : List ℕ} → Inv m g d S f a → Recovered g f a → listingTests a none ≡ none
+unfolding listingTests unless
+listing-passes inv same = rw (header-valid (shape-valid (inv .shape)), inv-directory-tests inv none same)
+
+-- A listing that gives 10 and 16 alone says neither 7 nor damage, and leaves the array as it is.
+listing-kept : (p : Point) → Good p → (said : Said) → Sayable late said → CallKept p keeps said (p .array)
+unfolding fed isRecovery has
+listing-kept p good said s =
+    nothing-changed p keeps said good refl (not-given late 7 s refl) refl Prim.tt
+    (rw (not-given late 1 s refl, not-given late 3 s refl, not-given late 4 s refl))
 
 pub list-kept : (p : Point) → Good p → p .needsRecovery ≡ false → (room : ℕ) → CallKept p keeps ((list (p .array) room) .reply) (p .array)
-unfolding fed isRecovery
 list-kept p good calm room =
     let w = good .whole calm in
-    ⊎-elim
-    (λ (e : (list (p .array) room) .reply ≡ done (length (records (p .array)) ∷ [])).
-    nothing-changed p keeps ((list (p .array) room) .reply) good refl (rw e) refl Prim.tt (rw e))
-    (λ (e : (list (p .array) room) .reply ≡ refused 10).
-    nothing-changed p keeps ((list (p .array) room) .reply) good refl (rw e) refl Prim.tt (rw e))
-    (list-says (w .inv) (w .recovered) room)
+    listing-kept p good ((list (p .array) room) .reply) (list-late (p .array) (listing-passes (w .inv) (w .recovered)) room)
+
+pub list-block-kept : (p : Point) → Good p → p .needsRecovery ≡ false → (i room : ℕ)
+    → CallKept p keeps ((listBlock (p .array) i room) .reply) (p .array)
+list-block-kept p good calm i room =
+    let w = good .whole calm in
+    listing-kept p good ((listBlock (p .array) i room) .reply) (list-block-late (p .array) (listing-passes (w .inv) (w .recovered)) i room)
 
 -- ---- Put and remove
 
@@ -257,6 +259,7 @@ refused-unchanged allowance none p a n says-done says not-seven =
 
 refusal-is : (number : ℕ) (said : Said) → isRefusal number said ≡ true → said ≡ refused number
 refusal-is number (done v) e = absurd (false≢true e)
+refusal-is number (listed n f) e = absurd (false≢true e)
 refusal-is number absent e = absurd (false≢true e)
 refusal-is number (refused n) e = ap refused (eqb-true n number e)
 

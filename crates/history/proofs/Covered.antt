@@ -1,5 +1,5 @@
--- What holds of every store that the history rule covers: mending can bring it back, a list has the map's records, and a done merge frees a
--- segment.
+-- What holds of every store that the history rule covers: mending can bring it back, a list and the answers block by block have the map's
+-- records, and a done merge frees a segment.
 -- Assumes nothing.
 use mathlib.Core.Path.{_≡_, sym, _∙_}
 use mathlib.Core.Bool.{true}
@@ -13,11 +13,12 @@ use Rattle.rules.specs.Get.{get}
 use Rattle.rules.specs.Step.{effect, step}
 use Rattle.replies.proofs.Outcomes.{Complete, CutShort, changed-cases, refused-not-done, tested-none, tests-passed}
 use Rattle.rules.proofs.Listing.{done-list-leaves}
+use Rattle.rules.proofs.ListBlock.{joined-listing}
 use Rattle.rules.proofs.Merge.{merge-passed}
 use Rattle.runs.specs.Map.{mapSays}
 use Rattle.runs.specs.Run.{Point, claimed}
 use Rattle.history.specs.History.{CoveredPoint}
-use Rattle.history.specs.Further.{MendSuffices, ListIsMap, MergeFrees}
+use Rattle.history.specs.Further.{MendSuffices, ListIsMap, PartsAreMap, MergeFrees}
 use Rattle.history.proofs.Invariant.{shape-depth, shape-segments, shape-valid}
 use Rattle.history.proofs.Recover.{entries-recovered}
 use Rattle.rules.proofs.Words.{header-valid}
@@ -25,7 +26,7 @@ use Rattle.rules.proofs.Mending.{mend-is-done}
 use Rattle.history.proofs.Mend.{inv-mendable}
 use Rattle.history.proofs.Merge.{right-free}
 use Rattle.history.proofs.Listing.{records-list-map}
-use Rattle.history.proofs.Calls.{get-is-map}
+use Rattle.history.proofs.Calls.{get-is-map, list-kept}
 use Rattle.history.proofs.Theorem.{covered-good}
 
 -- A lookup at any point of a run, also where recovery is needed, says what the map says.
@@ -45,6 +46,13 @@ list-is-map p c calm l answer a′ l′ count performed says =
     let w = good .whole calm in
     let d = done-list-leaves (p .array) l count (sym (performed .answered .reply) ∙ says) in
     (performed .list ∙ d .left, records-list-map (w .inv) (w .recovered) (good .zero-none), d .count)
+
+pub parts-are-map : PartsAreMap
+unfolding effect step
+parts-are-map p c calm l enough =
+    let good = covered-good p c in
+    let w = good .whole calm in
+    (joined-listing (p .array) l [] enough (list-kept p good calm 0 .no-damage), records-list-map (w .inv) (w .recovered) (good .zero-none))
 
 -- A done merge has made all its stores, on a store whose entries are all mended: its tests have passed.
 pub merge-frees : MergeFrees

@@ -17,11 +17,10 @@ use Rattle.stores.proofs.Tests.{cases}
 use Rattle.stores.proofs.Stores.{apply-append, exec-append, exec-all, exec-not-made}
 use Rattle.stores.proofs.Prefixes.{Always}
 use Rattle.replies.specs.declared.Refusal.{Refusal}
-use Rattle.replies.specs.Replies.{Said, refused, refuse, changed, isDone, isRefusal}
+use Rattle.replies.specs.Replies.{Said, refused, refuse, changed, isDone, isRefusal, saysDamage}
 use Rattle.replies.proofs.Outcomes.{Complete, CutShort, changed-cases}
 use Rattle.runs.specs.Map.{Map, View, fed}
 use Rattle.runs.specs.Run.{Point, isRecovery, recoveryAfter, advance, GetAgrees}
-use Rattle.history.specs.Further.{saysDamage}
 use Rattle.history.proofs.Kept.{Kept, Whole, whole-kept}
 
 -- A call's plan, against the map m: every number of its stores below all of them keeps m, and all of them leave, with no need

@@ -8,7 +8,7 @@ use lib.ListN.{replicate}
 use Rattle.stores.specs.Lists.{each}
 use Rattle.replies.specs.Replies.{Said, saidSame}
 use Rattle.rules.specs.declared.Call.{Call}
-use Rattle.rules.specs.declared.Call.the-variants.{Format, Get, Put, Remove, Merge, Mend, List as ListCall}
+use Rattle.rules.specs.declared.Call.the-variants.{Format, Get, Put, Remove, Merge, Mend, List as ListCall, ListBlock}
 use Rattle.rules.specs.Step.{outcomeOf}
 use Rattle.rules.proofs.Table.{computed}
 use Rattle.runs.specs.Map.{empty, updated, fed}
@@ -58,7 +58,7 @@ abbrev pub longRun : List Call
 longRun =
     sixteen
     ++ (Get 7 ∷ Put 263 5 76 ∷ Mend 0 ∷ Format 1 4 100 ∷ Format 2 5 100 ∷ Mend 1 ∷ Get 263 ∷ Get 23 ∷ Put 263 6 1000 ∷ Get 263 ∷ Remove 23 1
-    ∷ Get 23 ∷ Remove 23 1 ∷ Put 0 9 100 ∷ Get 0 ∷ Remove 0 1 ∷ ListCall ∷ Put 7 1 1 ∷ Get 7 ∷ Remove 39 0 ∷ Mend 5 ∷ Get 39 ∷ Format 12 4096 100 ∷ [])
+    ∷ Get 23 ∷ Remove 23 1 ∷ Put 0 9 100 ∷ Get 0 ∷ Remove 0 1 ∷ ListCall ∷ ListBlock 0 ∷ ListBlock 1 ∷ ListBlock 2 ∷ Put 7 1 1 ∷ Get 7 ∷ Remove 39 0 ∷ Mend 5 ∷ Get 39 ∷ Format 12 4096 100 ∷ [])
 
 -- Behind the split of 279 segment 0 keeps a stale record of page 23. Page 23 is removed; then a merge that is refused with 15, since 7 and
 -- 279 stand in one slot; one that is cut before its first entry, and mended; one that is cut behind it, and mended by a cut mend and a done
@@ -89,6 +89,7 @@ samples =
     ∷ record { calls = Put 7 1 1 ∷ Put 7 1 2 ∷ []; keys = []; valid = false }
     ∷ record { calls = Put 7 1 1 ∷ Get 7 ∷ []; keys = []; valid = false }
     ∷ record { calls = Put 7 1 2 ∷ Remove 7 0 ∷ ListCall ∷ []; keys = []; valid = false }
+    ∷ record { calls = Put 7 1 2 ∷ Remove 7 0 ∷ ListBlock 0 ∷ []; keys = []; valid = false }
     ∷ record { calls = sixteen ++ (Put 263 5 76 ∷ Mend 0 ∷ Put 7 1 1 ∷ []); keys = []; valid = false }
     -- a cut merge waits for a mend as a cut put does, and merges wait for it too
     ∷ record { calls = sixteen ++ (Put 263 5 79 ∷ Remove 263 1 ∷ Merge 7 16 ∷ Get 7 ∷ []); keys = []; valid = false }

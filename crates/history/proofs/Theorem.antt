@@ -7,16 +7,17 @@ use Prim.Native.Nat.{ℕ}
 use borrow.Author.Tests.{not-true}
 use lib.ListN.{length}
 use Rattle.rules.specs.declared.Call.{Call}
-use Rattle.rules.specs.declared.Call.the-variants.{Format, Get, Put, Remove, Merge, Mend, List as ListCall}
+use Rattle.rules.specs.declared.Call.the-variants.{Format, Get, Put, Remove, Merge, Mend, List as ListCall, ListBlock}
+use Rattle.replies.specs.Replies.{saysDamage}
 use Rattle.rules.specs.Step.{effect, step}
 use Rattle.runs.specs.Map.{empty}
 use Rattle.runs.specs.Run.{Point, start, mayFollow, next, Linked, CallAgrees}
 use Rattle.runs.proofs.Runs.{Invariant, runs-agree, each-call, reached-good}
 use Rattle.history.specs.History.{viewOf, Request, index, Formatted, HistoryRule, CoveredPoint}
-use Rattle.history.specs.Further.{saysDamage, NeverDamage}
+use Rattle.history.specs.Further.{NeverDamage}
 use Rattle.history.proofs.Format.{format-leaves}
 use Rattle.history.proofs.Plans.{Good, CallKept}
-use Rattle.history.proofs.Calls.{get-is-map, get-kept, list-kept, put-called, remove-called, merge-called, mend-called, format-called}
+use Rattle.history.proofs.Calls.{get-is-map, get-kept, list-kept, list-block-kept, put-called, remove-called, merge-called, mend-called, format-called}
 
 -- ---- The start, and one call
 
@@ -45,6 +46,7 @@ call-kept p good l (Remove key allowance) may = remove-called p good (not-true (
 call-kept p good l (Merge key allowance) may = merge-called p good (not-true (p .needsRecovery) may) key allowance
 call-kept p good l (Mend allowance) may = mend-called p good allowance
 call-kept p good l ListCall may = list-kept p good (not-true (p .needsRecovery) may) (length l)
+call-kept p good l (ListBlock i) may = list-block-kept p good (not-true (p .needsRecovery) may) i (length l)
 
 -- ---- The runs of the index
 

@@ -2,7 +2,7 @@
 -- Assumes nothing.
 use Prim.Native.Nat.{ℕ, _^_, _≤_, _<_}
 use mathlib.Core.Path.{_≡_}
-use mathlib.Core.Bool.{Bool, true, false, _||_}
+use mathlib.Core.Bool.{true, false}
 use mathlib.Core.List.{List, [], _∷_}
 use lib.ListN.{length}
 use Rattle.stores.specs.Written.{atFront}
@@ -12,16 +12,13 @@ use mathlib.Core.Option.{some}
 use Rattle.rules.specs.Layout.{depth, segments}
 use Rattle.rules.specs.Slots.{named, freeSegment}
 use Rattle.rules.specs.Merge.{rightOf}
-use Rattle.replies.specs.Replies.{Said, done, saidBy, isRefusal}
+use Rattle.replies.specs.Replies.{done, saidBy, saysDamage}
 use Rattle.rules.specs.Listing.{records, wordsOf}
 use Rattle.rules.specs.Step.{step, Performed}
+use Rattle.rules.specs.JoinedListing.{Gathered}
 use Rattle.runs.specs.Run.{Point, start, validRun, EachCall}
 use Rattle.history.specs.History.{Request, index, Formatted, CoveredPoint}
 use Rattle.history.specs.Listing.{ListsMap}
-
--- The reply is 1, 3 or 4.
-abbrev pub saysDamage : Said → Bool
-saysDamage said = isRefusal 1 said || (isRefusal 3 said || isRefusal 4 said)
 
 -- In a run no call answers 1, 3 or 4.
 abbrev pub NeverDamage : Type 0
@@ -43,6 +40,12 @@ ListIsMap =
     → Performed ListCall (p .array) l answer a′ l′
     → saidBy (answer .reply) ≡ done (count ∷ [])
     → (l′ ≡ atFront (wordsOf (records (p .array))) l) × ListsMap (p .map) (records (p .array)) × (count ≡ length (records (p .array)))
+
+-- There too a reader with a list array of 128 words or more gathers the records of the array, block by block, and they are the map's.
+abbrev pub PartsAreMap : Type 0
+PartsAreMap =
+    (p : Point) → CoveredPoint p → p .needsRecovery ≡ false → (l : List ℕ) → 128 ≤ length l
+    → Gathered (p .array) l × ListsMap (p .map) (records (p .array))
 
 -- Segment n is free in the array a: it is below S, no entry names it, and a split takes it, or a smaller one that no entry names.
 pub record FreeIn (n : ℕ) (a : List ℕ) : Type 0 where

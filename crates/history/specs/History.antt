@@ -5,7 +5,7 @@ use mathlib.Core.Path.{_≡_}
 use mathlib.Core.Bool.{true, false}
 use mathlib.Core.List.{List, []}
 use Rattle.rules.specs.declared.Call.{Call}
-use Rattle.rules.specs.declared.Call.the-variants.{Format, Get, Put, Remove, Merge, Mend, List as ListCall}
+use Rattle.rules.specs.declared.Call.the-variants.{Format, Get, Put, Remove, Merge, Mend, List as ListCall, ListBlock}
 use Rattle.replies.specs.declared.Answer.{Answer}
 use Rattle.replies.specs.Replies.{Said, done, saidBy}
 use Rattle.rules.specs.Step.{step, outcomeOf, Performed}
@@ -21,10 +21,11 @@ viewOf (Remove key allowance) = removes key
 viewOf (Merge key allowance) = keeps
 viewOf (Mend allowance) = mends
 viewOf ListCall = keeps
+viewOf (ListBlock i) = keeps
 
 -- ---- Over the definitions
 
--- A call with the list array that is lent with it; only a list looks at it.
+-- A call with the list array that is lent with it; only the listings look at it.
 pub record Request : Type 0 where
   pub call : Call
   pub list : List ℕ
