@@ -1,220 +1,240 @@
--- The records of an index block by block. The indices behind a leader, inside its block, add none.
+-- What the listings read, count and write, block by block, and what they answer.
 -- Assumes nothing.
-use mathlib.Core.Path.{_≡_, refl, ap, _∙_}
+use mathlib.Core.Path.{_≡_, refl, sym, ap, _∙_}
 use mathlib.Core.Bool.{true, false}
 use mathlib.Core.List.{List, [], _∷_, _++_}
-use mathlib.Core.Option.{none, some}
-use mathlib.Core.Logic.{⊎-elim}
-use Prim.Native.Nat.{ℕ, zero, suc, _+_, _-_, _*_, _%_, _^_, _≤_, _<_}
-use native.Mathlib.Nat.{le-of-suc-le-suc, eq-or-lt-of-le}
+use mathlib.Core.Option.{Option, none, some}
+use Prim.Native.Nat.{ℕ, _+_, _-_, _*_, _%_, _^_, _≤_, _<_}
 use native.Mathlib.Omega.{arith}
-use borrow.Author.Tests.{eq-eqb, ne-eqb, le-leb, lt-leb}
-use lib.Dec.{eqb}
+use lib.Bits.{bitAnd}
 use lib.ListN.{length, length-append}
-use Rattle.stores.specs.Lists.{pick, each}
 use Rattle.stores.specs.Store.{word}
-use Rattle.stores.proofs.Lists.{each-suc, each-zero}
 use Rattle.replies.specs.declared.Refusal.{Refusal}
-use Rattle.replies.specs.declared.Refusal.the-variants.{NoStore, Broken, Unmended, ShortList}
+use Rattle.replies.specs.declared.Refusal.the-variants.{NoStore, ShortList, NoLeader}
 use Rattle.replies.specs.declared.Answer.{Answer}
 use Rattle.rules.specs.Layout.{validHeader, depth, segments, entryAt, segmentOf, localDepth}
 use Rattle.rules.specs.Keys.{width}
-use Rattle.rules.specs.Scan.{leader, leadersValid, entriesAgree}
-use Rattle.replies.specs.Replies.{done, refuse, unless}
-use Rattle.replies.specs.Writing.{behindTests}
+use Rattle.rules.specs.Scan.{leader, leadersValid}
+use Rattle.replies.specs.Replies.{done, listed, refuse, unless}
+use Rattle.replies.specs.Writing.{Writing, behindTests}
 use Rattle.replies.specs.Answered.{Wrote}
 use Rattle.rules.specs.Put.{directoryTests}
-use Rattle.rules.specs.Listing.{Record, liveRecord, blockRecords, records, wordsOf, listTests, list}
-use Rattle.rules.proofs.Keys.{width-pos}
-use Rattle.rules.proofs.Scan.{led, next-leads, leader-fits, valid-at-depth, valid-at-segment, valid-at-aligned, each-one}
+use Rattle.rules.specs.Listing.{blockRecords, records, wordsOf, listingTests, roomTest, listTests, list}
+use Rattle.rules.specs.ListBlock.{leads, recordsLed, following, followingLed, listBlockTests, listBlock}
+use Rattle.rules.proofs.BlockRecords.{recordsTo, records-end, records-grow, leader-depth, leader-segment, next-inside, next-behind, next-own, records-block, leads-at, leader-at, not-leads, aligned-leads, leads-aligned}
 use Rattle.stores.specs.Written.{Written}
 use Rattle.stores.proofs.Written.{written-append, written-at-front}
-use Rattle.segment.specs.Listing.{liveRecords}
-use Rattle.rules.proofs.Listing.{words-append}
+use Rattle.rules.proofs.Scan.{range-depth, consistent-in-range}
+use Rattle.rules.proofs.Listing.{words-append, listing-passed, listing-stops, listing-goes-on, room-passed, room-short}
 use Rattle.layout.specs.declared.header.Header.{Header}
 use Rattle.layout.specs.Headers.{Describes}
 use Rattle.layout.proofs.Shapes.{bounds}
-use Rattle.layout.proofs.Entries.{entry-word}
+use Rattle.layout.proofs.Entries.{entry-word, mask-width}
 use Rattle.index.specs.declared.listing.BlockPlace.{BlockPlace}
-use Rattle.layout.specs.Blocks.{shared}
-use Rattle.index.specs.Blocks.{BlockRead}
+use Rattle.index.specs.declared.listing.Listable.{Listable}
+use Rattle.index.specs.declared.listing.Listable.the-variants.{As, Refused}
+use Rattle.index.specs.declared.listing.BlockFound.{BlockFound}
+use Rattle.index.specs.declared.listing.BlockFound.the-variants.{At, NoLeader as NoBlock}
+use Rattle.index.specs.Blocks.{ListableRead, ListableBy, BlockRead, FoundAt, PlaceInside, placeRecords}
 use Rattle.index.proofs.Calls.{Without}
 use Rattle.layout.proofs.Places.{segment-fits}
-use Rattle.segment.specs.Slot.{segmentIn}
-use Rattle.segment.proofs.Parts.{part-records}
 
--- The records that index i adds: those of its block, where it leads one.
-abbrev pub recordsAt : List ℕ → (i : ℕ) → List Record
-recordsAt a i = pick (eqb (leader a (depth a) i) i) (blockRecords a i (entryAt a (depth a) i)) []
+-- ---- The tests in front
 
--- The records of the indices below i.
-abbrev pub recordsTo : List ℕ → (i : ℕ) → List Record
-recordsTo a i = each (recordsAt a) i
+module _ (a : List ℕ) where
+  pub front-no-store : validHeader a ≡ false → listingTests a none ≡ some NoStore
+  unfolding listingTests unless
+  front-no-store e = rw e
 
-pub records-start : (a : List ℕ) → recordsTo a 0 ≡ []
-records-start a = each-zero (recordsAt a)
+  -- With a valid word 0, the directory decides.
+  pub front-directory : validHeader a ≡ true → listingTests a none ≡ directoryTests a none
+  unfolding listingTests unless
+  front-directory e = rw e
 
-pub records-end : (a : List ℕ) (i : ℕ) → i ≡ 2 ^ depth a → recordsTo a i ≡ records a
-unfolding records
-records-end a i e = rw e
+-- What the tests have answered.
+module _ (a : List ℕ) (r : Listable) (e : ListableBy r a) where
+  pub listable-as : (h : Header) → r ≡ As h → ListableRead h a
+  listable-as h q = rw q at e
 
-records-grow : (a : List ℕ) (i n : ℕ) → i ≤ n → length (recordsTo a i) ≤ length (recordsTo a n)
-records-grow a i zero h = let e : i ≡ 0 = omega arith in rw e (omega arith)
-records-grow a i (suc n) h =
-    ⊎-elim
-    (λ (e : i ≡ suc n). rw e (omega arith))
-    (λ (k : i < suc n).
-    let front : length (recordsTo a i) ≤ length (recordsTo a n) = records-grow a i n (le-of-suc-le-suc k) in
-    rw (each-suc (recordsAt a) n, length-append (recordsTo a n) (recordsAt a n)) (omega arith))
-    (eq-or-lt-of-le h)
+  pub listable-refused : (q : Refusal) → r ≡ Refused q → listingTests a none ≡ some q
+  listable-refused q k = rw k at e
 
--- ---- At a leader, where all leaders are valid
-
-module _ (a : List ℕ) (v : leadersValid a (depth a) (segments a) ≡ true) (i : ℕ) (k : i < 2 ^ depth a) (own : leader a (depth a) i ≡ i) where
-  -- The entry's local depth and the width of its block.
-  abbrev local : ℕ
-  local = localDepth (entryAt a (depth a) i)
-
-  abbrev wide : ℕ
-  wide = width (depth a) local
-
-  pub leader-depth : local ≤ depth a
-  leader-depth = rw own at (valid-at-depth a (depth a) (segments a) i v k)
-
-  pub leader-segment : segmentOf (entryAt a (depth a) i) < segments a
-  leader-segment = rw own at (valid-at-segment a (depth a) (segments a) i v k)
-
-  aligned : i % wide ≡ 0
-  aligned = rw own at (valid-at-aligned a (depth a) (segments a) i v k)
-
-  pub next-inside : i + wide ≤ 2 ^ depth a
-  next-inside = rw own at (leader-fits a (depth a) (segments a) i v k)
-
-  pub next-own : leader a (depth a) (i + wide) ≡ i + wide
-  next-own = next-leads a (depth a) i own aligned
-
-  -- Its block adds its live records, and nothing else.
-  pub records-block : recordsTo a (i + wide) ≡ recordsTo a i ++ blockRecords a i (entryAt a (depth a) i)
-  records-block =
-      let w : wide ≡ suc (wide - 1) = omega (arith, width-pos (depth a) local) in
-      let here : recordsAt a i ≡ blockRecords a i (entryAt a (depth a) i) = rw (eq-eqb (leader a (depth a) i) i own) in
-      ap (λ (n : ℕ). recordsTo a (i + n)) w
-      ∙ each-one (recordsAt a) i (wide - 1) inside
-      ∙ ap (λ (l : List Record). recordsTo a i ++ l) here
-    where
-      inside : (j : ℕ) → i < j → j < i + suc (wide - 1) → recordsAt a j ≡ []
-      inside j p q =
-          let here : i + (j - i) ≡ j = omega arith in
-          let first : leader a (depth a) j ≡ i = rw here at (led a (depth a) i (j - i) own aligned (omega (arith, width-pos (depth a) local))) in
-          rw (ne-eqb (leader a (depth a) j) j (λ e. omega arith))
+-- ---- At a leader
 
 -- What the code asks of the entry at a leader.
 pub record LeaderBounds (h : Header) (e : ℕ) : Type 0 where
   pub depth-low : localDepth e ≤ h .depth
   pub segment-small : segmentOf e ≤ 4096
 
-module _ {h : Header} {a : List ℕ} (d : Describes h a) (v : leadersValid a (depth a) (segments a) ≡ true) (i : ℕ) (k : i < 2 ^ depth a)
-    (own : leader a (depth a) i ≡ i) where
+module _ {h : Header} {a : List ℕ} (d : Describes h a) (v : leadersValid a (depth a) (segments a) ≡ true) (i : ℕ) (lead : leads a i ≡ true) where
+  pub leader-below : i < 2 ^ h .depth
+  leader-below = rw (d .depth-read) at (leads-at a i lead .below)
+
   pub leader-bounds : (count : ℕ) → count ≡ 2 ^ h .depth → LeaderBounds h (word a (count + i))
   leader-bounds count e =
       let b = bounds d in
+      let t = leads-at a i lead in
       let g : depth a ≡ h .depth = d .depth-read in
       let s : segments a ≡ h .segments = d .segments-read in
-      let low : localDepth (entryAt a (depth a) i) ≤ depth a = leader-depth a v i k own in
-      let below : segmentOf (entryAt a (depth a) i) < segments a = leader-segment a v i k own in
+      let low : localDepth (entryAt a (depth a) i) ≤ depth a = leader-depth a v i (t .below) (t .own) in
+      let below : segmentOf (entryAt a (depth a) i) < segments a = leader-segment a v i (t .below) (t .own) in
       rw (entry-word count i d e) (record { depth-low = omega arith; segment-small = omega arith })
+
+  -- The block that the code read there lies in the array.
+  pub place-inside : (b : BlockPlace) → BlockRead a i b → PlaceInside b a
+  place-inside b r =
+      let t = leads-at a i lead in
+      let B = bounds d in
+      let g : depth a ≡ h .depth = d .depth-read in
+      let low : localDepth (entryAt a (depth a) i) ≤ depth a = leader-depth a v i (t .below) (t .own) in
+      let below : segmentOf (entryAt a (depth a) i) < segments a = leader-segment a v i (t .below) (t .own) in (
+        rw (r .base-is, d .max-depth-read) (segment-fits d (segmentOf (entryAt a (depth a) i)) (rw (d .segments-read) at below)),
+        rw (r .depth-is) (omega arith),
+      )
+
+-- The live records of its segment are the block's.
+pub place-records : (a : List ℕ) (i : ℕ) (b : BlockPlace) → BlockRead a i b → placeRecords a b ≡ recordsLed a i
+unfolding blockRecords
+place-records a i b r = rw (r .bits-are, r .base-is, r .depth-is)
+
+-- ---- An index that need not lead
+
+-- Whether a block begins there, by the entry that the code reads there, where the tests in front of a listing pass.
+module _ {h : Header} {a : List ℕ} (r : ListableRead h a) (count : ℕ) (c : count ≡ 2 ^ h .depth) (i : ℕ) where
+  pub leads-not-behind : count ≤ i → leads a i ≡ false
+  leads-not-behind k = not-leads a i (λ t. omega (arith, rw (r .0 .depth-read) at (t .below)))
+
+  module _ (k : i < count) where
+    inside-directory : i < 2 ^ depth a
+    inside-directory = rw (r .0 .depth-read) (omega arith)
+
+    entry-here : word a (count + i) ≡ entryAt a (depth a) i
+    entry-here = entry-word count i (r .0) c
+
+    pub entry-low : localDepth (word a (count + i)) ≤ h .depth
+    entry-low =
+        let p = listing-passed a none (r .1) in
+        rw (entry-here, ← r .0 .depth-read)
+        (range-depth (depth a) (segments a) (entryAt a (depth a) i)
+        (consistent-in-range a (depth a) (segments a) i (p .leaders) (p .agree) inside-directory))
+
+    -- The width of the block that this entry would lead, and its rest of the index.
+    module _ (L w : ℕ) (l : L ≡ localDepth (word a (count + i))) (e : w ≡ width (h .depth) L) where
+      rest-is : bitAnd i (w - 1) ≡ i % width (depth a) (localDepth (entryAt a (depth a) i))
+      rest-is = mask-width (h .depth) L i w e ∙ rw (l, entry-here, r .0 .depth-read)
+
+      pub leads-here : bitAnd i (w - 1) ≡ 0 → leads a i ≡ true
+      leads-here z =
+          let p = listing-passed a none (r .1) in
+          leader-at a i inside-directory (aligned-leads a (p .leaders) (p .agree) i inside-directory (sym rest-is ∙ z))
+
+      pub leads-not-inside : (bitAnd i (w - 1) ≡ 0 → ⊥) → leads a i ≡ false
+      leads-not-inside n =
+          let p = listing-passed a none (r .1) in
+          not-leads a i (λ t. n (rest-is ∙ leads-aligned a (p .leaders) (p .agree) i inside-directory (t .own)))
+
+-- What the search for a block has answered.
+module _ (a : List ℕ) (i : ℕ) (r : BlockFound) (e : FoundAt r a i) where
+  pub found-at : (b : BlockPlace) → r ≡ At b → (leads a i ≡ true) × BlockRead a i b
+  found-at b q = rw q at e
+
+  pub found-none : r ≡ NoBlock → leads a i ≡ false
+  found-none q = rw q at e
+
+-- What follows the block that was read.
+pub following-read : {h : Header} {a : List ℕ} → Describes h a → (i : ℕ) (b : BlockPlace) → BlockRead a i b
+    → following (b .next) (2 ^ h .depth) ≡ followingLed a i
+following-read d i b r = rw (r .next-is, d .depth-read)
+
+-- ---- All blocks
 
 -- The block that the code read at a leader, in the listing: where it goes on, and what it adds.
 pub record Turn (a : List ℕ) (count i : ℕ) (b : BlockPlace) : Type 0 where
-  pub whole : b .base + 128 ≤ length a
-  pub depth-small : b .block .«local_depth» ≤ 12
+  pub inside-array : PlaceInside b a
   pub onwards : i < b .next
   pub inside : b .next ≤ count
-  pub leads : leader a (depth a) (b .next) ≡ b .next
-  pub adds : recordsTo a (b .next)
-      ≡ recordsTo a i ++ liveRecords (segmentIn a (b .base)) (b .block .«local_depth») (shared (b .block))
-  pub room : length (recordsTo a i) + length (liveRecords (segmentIn a (b .base)) (b .block .«local_depth») (shared (b .block)))
-      ≤ length (records a)
-
--- The live records of the block's segment are the block's.
-block-live : (a : List ℕ) (i : ℕ) (b : BlockPlace) → BlockRead a i b
-    → each (liveRecord a (b .base) (b .block .«local_depth») (shared (b .block))) 64 ≡ blockRecords a i (entryAt a (depth a) i)
-unfolding blockRecords
-block-live a i b r = rw (r .bits-are, r .base-is, r .depth-is)
+  pub leads-next : leader a (depth a) (b .next) ≡ b .next
+  pub adds : recordsTo a (b .next) ≡ recordsTo a i ++ placeRecords a b
+  pub room : length (recordsTo a i) + length (placeRecords a b) ≤ length (records a)
 
 pub turn : {h : Header} {a : List ℕ} → Describes h a → leadersValid a (depth a) (segments a) ≡ true → (count : ℕ) → count ≡ 2 ^ h .depth
-    → (i : ℕ) → i < count → leader a (depth a) i ≡ i → (b : BlockPlace) → BlockRead a i b → Turn a count i b
-turn {h} {a} d v count c i k own b r =
-    let k′ : i < 2 ^ depth a = rw (d .depth-read) (omega arith) in
-    let B = bounds d in
-    let g : depth a ≡ h .depth = d .depth-read in
-    let low : localDepth (entryAt a (depth a) i) ≤ depth a = leader-depth a v i k′ own in
-    let below : segmentOf (entryAt a (depth a) i) < segments a = leader-segment a v i k′ own in
-    let whole : b .base + 128 ≤ length a =
-    rw (r .base-is, d .max-depth-read) (segment-fits d (segmentOf (entryAt a (depth a) i)) (rw (d .segments-read) at below)) in
-    let last : b .next ≤ 2 ^ depth a = rw (r .next-is) (next-inside a v i k′ own) in
-    let live : liveRecords (segmentIn a (b .base)) (b .block .«local_depth») (shared (b .block)) ≡ blockRecords a i (entryAt a (depth a) i) =
-    part-records a (b .base) whole (b .block .«local_depth») (shared (b .block)) ∙ block-live a i b r in
-    let adds : recordsTo a (b .next)
-    ≡ recordsTo a i ++ liveRecords (segmentIn a (b .base)) (b .block .«local_depth») (shared (b .block)) =
-    rw (r .next-is, live) (records-block a v i k′ own) in
+    → (i : ℕ) → leads a i ≡ true → (b : BlockPlace) → BlockRead a i b → Turn a count i b
+turn {h} {a} d v count c i lead b r =
+    let t = leads-at a i lead in
+    let last : b .next ≤ 2 ^ depth a = rw (r .next-is) (next-inside a v i (t .below) (t .own)) in
+    let adds : recordsTo a (b .next) ≡ recordsTo a i ++ placeRecords a b =
+    rw (r .next-is, place-records a i b r) (records-block a v i (t .below) (t .own)) in
     record {
-      whole = whole;
-      depth-small = rw (r .depth-is) (omega arith);
-      onwards = rw (r .next-is) (omega (arith, width-pos (depth a) (localDepth (entryAt a (depth a) i))));
+      inside-array = place-inside d v i lead b r;
+      onwards = rw (r .next-is) (next-behind a v i (t .below) (t .own));
       inside = omega (arith, ap (λ (n : ℕ). 2 ^ n) (d .depth-read));
-      leads = rw (r .next-is) (next-own a v i k′ own);
+      leads-next = rw (r .next-is) (next-own a v i (t .below) (t .own));
       adds = adds;
       room = rw (← length-append, ← adds, ← records-end a (2 ^ depth a) refl) (records-grow a (b .next) (2 ^ depth a) last);
     }
 
+-- The loop's index leads while it is below the end.
+pub loop-leads : {h : Header} {a : List ℕ} → Describes h a → (count : ℕ) → count ≡ 2 ^ h .depth → (i : ℕ) → i < count
+    → leader a (depth a) i ≡ i → leads a i ≡ true
+loop-leads {h} {a} d count c i k own = leader-at a i (rw (d .depth-read) (omega arith)) own
+
 -- The records of the block behind those before it, counted and written.
 module _ {a : List ℕ} {count i : ℕ} {b : BlockPlace} (t : Turn a count i b) where
-  pub count-turn : (total n : ℕ) → total ≡ length (recordsTo a i)
-      → n ≡ length (liveRecords (segmentIn a (b .base)) (b .block .«local_depth») (shared (b .block)))
-      → total + n ≡ length (recordsTo a (b .next))
+  pub count-turn : (total n : ℕ) → total ≡ length (recordsTo a i) → n ≡ length (placeRecords a b) → total + n ≡ length (recordsTo a (b .next))
   count-turn total n e f = rw (t .adds, length-append) (omega arith)
 
   pub write-turn : (l : List ℕ) (m : ℕ) (l₁ : List ℕ) (n : ℕ) (l₂ : List ℕ) → Written (wordsOf (recordsTo a i)) 0 l m l₁
-      → Written (wordsOf (liveRecords (segmentIn a (b .base)) (b .block .«local_depth») (shared (b .block)))) m l₁ n l₂
-      → Written (wordsOf (recordsTo a (b .next))) 0 l n l₂
+      → Written (wordsOf (placeRecords a b)) m l₁ n l₂ → Written (wordsOf (recordsTo a (b .next))) 0 l n l₂
   write-turn l m l₁ n l₂ p q =
       rw (t .adds, words-append) (written-append _ _ 0 l m l₁ n l₂ (omega arith) p q)
 
--- ---- The call
+-- ---- What the calls answer
 
--- The tests of a list with `room` words lent, from what was read of the array.
-module _ (a : List ℕ) (room : ℕ) where
-  pub list-no-store : validHeader a ≡ false → listTests a room ≡ some NoStore
-  unfolding listTests unless
-  list-no-store e = rw e
+-- A writing behind tests that refuse, and behind tests that pass.
+module _ (t : Option Refusal) (w : Writing) (l : List ℕ) (r : Answer) where
+  pub wrote-nothing : (q : Refusal) → t ≡ some q → Without r (refuse q) → Wrote (behindTests t w) r l l
+  unfolding behindTests
+  wrote-nothing q e k = rw e (record { reply = k .0; stores = k .1; left = refl })
 
-  module _ (v : validHeader a ≡ true) where
-    pub list-broken : leadersValid a (depth a) (segments a) ≡ false → listTests a room ≡ some Broken
-    unfolding listTests directoryTests unless
-    list-broken e = rw (v, e)
-
-    module _ (l : leadersValid a (depth a) (segments a) ≡ true) where
-      pub list-unmended : entriesAgree a (depth a) ≡ false → listTests a room ≡ some Unmended
-      unfolding listTests directoryTests unless
-      list-unmended e = rw (v, l, e)
-
-      module _ (e : entriesAgree a (depth a) ≡ true) where
-        pub list-short : room < 2 * length (records a) → listTests a room ≡ some ShortList
-        unfolding listTests directoryTests unless
-        list-short k = rw (v, l, e, lt-leb (2 * length (records a)) room k)
-
-        pub list-passed : 2 * length (records a) ≤ room → listTests a room ≡ none
-        unfolding listTests directoryTests unless
-        list-passed k = rw (v, l, e, le-leb (2 * length (records a)) room k)
+  pub wrote-words : t ≡ none → Without r (w .reply) → (n : ℕ) (l′ : List ℕ) → Written (w .words) 0 l n l′ → Wrote (behindTests t w) r l l′
+  unfolding behindTests
+  wrote-words e k n l′ x = rw e (record { reply = k .0; stores = k .1; left = written-at-front (w .words) l n l′ x })
 
 module _ (a l : List ℕ) (r : Answer) where
-  pub list-refused : (q : Refusal) → listTests a (length l) ≡ some q → Without r (refuse q) → Wrote (list a (length l)) r l l
-  unfolding list behindTests
-  list-refused q e k = rw e (record { reply = k .0; stores = k .1; left = refl })
+  pub list-refused : (q : Refusal) → listingTests a none ≡ some q → Without r (refuse q) → Wrote (list a (length l)) r l l
+  unfolding list listTests
+  list-refused q e k = wrote-nothing _ _ l r q (listing-stops a q _ e) k
 
-  pub list-done : listTests a (length l) ≡ none → Without r (done (length (records a) ∷ [])) → (n : ℕ) (l′ : List ℕ)
-      → Written (wordsOf (records a)) 0 l n l′ → Wrote (list a (length l)) r l l′
-  unfolding list behindTests
-  list-done e k n l′ w =
-      rw e (record { reply = k .0; stores = k .1; left = written-at-front (wordsOf (records a)) l n l′ w })
+  pub block-refused : (i : ℕ) (q : Refusal) → listingTests a none ≡ some q → Without r (refuse q) → Wrote (listBlock a i (length l)) r l l
+  unfolding listBlock listBlockTests
+  block-refused i q e k = wrote-nothing _ _ l r q (listing-stops a q _ e) k
+
+  module _ (passed : listingTests a none ≡ none) where
+    pub list-short : length l < 2 * length (records a) → Without r (refuse ShortList) → Wrote (list a (length l)) r l l
+    unfolding list listTests
+    list-short h k = wrote-nothing _ _ l r ShortList (listing-goes-on a _ passed ∙ room-short (records a) (length l) h) k
+
+    pub list-done : 2 * length (records a) ≤ length l → Without r (done (length (records a) ∷ [])) → (n : ℕ) (l′ : List ℕ)
+        → Written (wordsOf (records a)) 0 l n l′ → Wrote (list a (length l)) r l l′
+    unfolding list listTests
+    list-done h k n l′ w = wrote-words _ _ l r (listing-goes-on a _ passed ∙ room-passed (records a) (length l) h) k n l′ w
+
+    module _ (i : ℕ) where
+      pub block-no-leader : leads a i ≡ false → Without r (refuse NoLeader) → Wrote (listBlock a i (length l)) r l l
+      unfolding listBlock listBlockTests unless
+      block-no-leader e k = wrote-nothing _ _ l r NoLeader (listing-goes-on a _ passed ∙ rw e) k
+
+      module _ (lead : leads a i ≡ true) where
+        -- Behind 1, 3, 4 and 16 the room decides.
+        room-decides : listBlockTests a i (length l) ≡ roomTest (recordsLed a i) (length l)
+        unfolding listBlockTests unless
+        room-decides = listing-goes-on a _ passed ∙ rw lead
+
+        pub block-short : length l < 2 * length (recordsLed a i) → Without r (refuse ShortList) → Wrote (listBlock a i (length l)) r l l
+        unfolding listBlock
+        block-short h k = wrote-nothing _ _ l r ShortList (room-decides ∙ room-short (recordsLed a i) (length l) h) k
+
+        pub block-done : 2 * length (recordsLed a i) ≤ length l → Without r (listed (length (recordsLed a i)) (followingLed a i)) → (n : ℕ) (l′ : List ℕ)
+            → Written (wordsOf (recordsLed a i)) 0 l n l′ → Wrote (listBlock a i (length l)) r l l′
+        unfolding listBlock
+        block-done h k n l′ w = wrote-words _ _ l r (room-decides ∙ room-passed (recordsLed a i) (length l) h) k n l′ w

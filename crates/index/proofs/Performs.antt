@@ -6,11 +6,13 @@ use Prim.Native.Nat.{ℕ}
 use mathlib.Core.List.{List, []}
 use lib.ListN.{length}
 use Rattle.replies.specs.declared.Answer.{Answer}
+use Rattle.replies.specs.Writing.{Writing}
 use Rattle.replies.specs.Answered.{Answered, Wrote}
 use Rattle.rules.specs.declared.Call.{Call}
-use Rattle.rules.specs.declared.Call.the-variants.{List as ListCall}
+use Rattle.rules.specs.declared.Call.the-variants.{List as ListCall, ListBlock}
 use Rattle.rules.specs.Listing.{list}
-use Rattle.rules.specs.Step.{effect, lists, step, outcomeOf, Performed}
+use Rattle.rules.specs.ListBlock.{listBlock}
+use Rattle.rules.specs.Step.{answers, effect, lists, step, outcomeOf, Performed}
 use Rattle.rules.proofs.Listing.{step-apart, list-array-kept}
 
 module _ (a l : List ℕ) (r : Answer) where
@@ -23,14 +25,22 @@ module _ (a l : List ℕ) (r : Answer) where
         list = sym (list-array-kept a l call q);
       }
 
-  -- What `list` promises is one too.
-  pub wrote-performed : (l′ : List ℕ) → Wrote (list a (length l)) r l l′ → Performed ListCall a l r a l′
-  unfolding step effect
-  wrote-performed l′ k =
+  -- What `list` and `list_block` promise is one too.
+  pub wrote-performed : (l′ : List ℕ) (w : Writing) (call : Call) → effect a (length l) call ≡ answers w → Wrote w r l l′ → Performed call a l r a l′
+  unfolding step
+  wrote-performed l′ w call e k =
       record {
-        answered = record { reply = k .reply; stores = k .stores; words = refl };
-        list = k .left;
+        answered = rw e (record { reply = k .reply; stores = k .stores; words = refl });
+        list = rw e (k .left);
       }
+
+  pub list-performed : (l′ : List ℕ) → Wrote (list a (length l)) r l l′ → Performed ListCall a l r a l′
+  unfolding effect
+  list-performed l′ k = wrote-performed l′ (list a (length l)) ListCall refl k
+
+  pub list-block-performed : (i : ℕ) (l′ : List ℕ) → Wrote (listBlock a i (length l)) r l l′ → Performed (ListBlock i) a l r a l′
+  unfolding effect
+  list-block-performed i l′ k = wrote-performed l′ (listBlock a i (length l)) (ListBlock i) refl k
 
   -- The call that was given is the one that was answered.
   pub performed : (b : List ℕ) {given call : Call} → given ≡ call → lists call ≡ false → Answered (outcomeOf a call) r b

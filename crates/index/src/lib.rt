@@ -1,5 +1,5 @@
-// The calls of document 01: format, get, put, remove, mend, list; and document 02's merge. Every array,
-// also the empty one, and every argument gets an answer; none has a requirement.
+// The calls of document 01: format, get, put, remove, mend, list; and document 02's merge and list of one
+// block. Every array, also the empty one, and every argument gets an answer; none has a requirement.
 mod answer;
 mod empty;
 mod listing;
@@ -16,7 +16,14 @@ use layout::header::read_header;
 use layout::header::valid_shape;
 use layout::header::words_for;
 use layout::place::Placed;
+use listing::BlockFound;
+use listing::Listable;
+use listing::count_block;
 use listing::count_records;
+use listing::find_block;
+use listing::following;
+use listing::header_to_list;
+use listing::write_block;
 use listing::write_records;
 use place::place_to_change;
 use place::place_to_read;
@@ -40,6 +47,7 @@ ghost use lib.ListN.{length};
 ghost use Rattle.replies.specs.Answered.{Answered, Wrote};
 ghost use Rattle.rules.specs.declared.Call.the-variants.{Format, Get, Put, Remove, Merge, Mend};
 ghost use Rattle.rules.specs.Listing.{list as listing};
+ghost use Rattle.rules.specs.ListBlock.{listBlock};
 ghost use Rattle.rules.specs.Step.{outcomeOf, Performed};
 
 // Format: an empty index of largest depth `depth` (document 01: D) with `segments` segments (S).
@@ -156,14 +164,10 @@ pub fn mend(words: &mut [u64], allowance: u32) -> Answer
 pub fn list(words: &[u64], list: &mut [u64]) -> Answer
     ensures { λ r. ⌜ Wrote (listing (now (words .entry)) (length (now (list .entry)))) r (now (list .entry)) (now (list .exit)) ⌝ }
 {
-    let HeaderRead::Valid(header) = read_header(words) else {
-        return without_store(Reply::Refused(Refusal::NoStore));
+    let header = match header_to_list(words) {
+        Listable::As(header) => header,
+        Listable::Refused(refusal) => return without_store(Reply::Refused(refusal)),
     };
-    match scan(words, header) {
-        Verdict::Broken => return without_store(Reply::Refused(Refusal::Broken)),
-        Verdict::Unmended => return without_store(Reply::Refused(Refusal::Unmended)),
-        Verdict::Consistent => {}
-    }
     let count = count_records(words, header);
     if list.len() < 2 * count {
         return without_store(Reply::Refused(Refusal::ShortList));
@@ -172,7 +176,28 @@ pub fn list(words: &[u64], list: &mut [u64]) -> Answer
     without_store(Reply::Value(count as u64))
 }
 
-// One call given as data, on the index array and the list array. Only a list touches the list array.
+// List of one block: the live records of the block that `index` leads, by rising slot number; and the
+// index of the block that follows, or that it was the last. Joined from index 0 on, the answers are the
+// list (document 02, wish 7).
+pub fn list_block(words: &[u64], index: u64, list: &mut [u64]) -> Answer
+    ensures { λ r. ⌜ Wrote (listBlock (now (words .entry)) index (length (now (list .entry)))) r (now (list .entry)) (now (list .exit)) ⌝ }
+{
+    let header = match header_to_list(words) {
+        Listable::As(header) => header,
+        Listable::Refused(refusal) => return without_store(Reply::Refused(refusal)),
+    };
+    let BlockFound::At(place) = find_block(words, header, index) else {
+        return without_store(Reply::Refused(Refusal::NoLeader));
+    };
+    let records = count_block(words, place);
+    if list.len() < 2 * records {
+        return without_store(Reply::Refused(Refusal::ShortList));
+    }
+    write_block(words, place, list, 0);
+    without_store(Reply::Listed(records as u64, following(header, place.next)))
+}
+
+// One call given as data, on the index array and the list array. Only the listings touch the list array.
 pub fn perform(words: &mut [u64], list: &mut [u64], call: Call) -> Answer
     ensures { λ r. ⌜ Performed call (now (words .entry)) (now (list .entry)) r (now (words .exit)) (now (list .exit)) ⌝ }
 {
@@ -192,5 +217,6 @@ pub fn perform(words: &mut [u64], list: &mut [u64], call: Call) -> Answer
         Call::Merge { key, allowance } => merge(words, key, allowance),
         Call::Mend { allowance } => mend(words, allowance),
         Call::List => crate::list(words, list),
+        Call::ListBlock { index } => list_block(words, index, list),
     }
 }

@@ -2,7 +2,7 @@
 -- a chain of performed calls, and the history rule over those (`performed-history-rule` of `history`) speaks of it.
 -- Assumes nothing.
 use Prim.Native.Nat.{ℕ}
-use mathlib.Core.Path.{_≡_, refl, sym}
+use mathlib.Core.Path.{_≡_, refl, sym, ap, _∙_}
 use mathlib.Core.Bool.{Bool, false}
 use mathlib.Core.List.{List, []}
 use mathlib.Core.Option.{none}
@@ -10,16 +10,16 @@ use lib.ListN.{length}
 use Rattle.stores.specs.Plan.{Outcome}
 use Rattle.replies.specs.declared.Answer.{Answer}
 use Rattle.rules.specs.declared.Call.{Call}
-use Rattle.rules.specs.declared.Call.the-variants.{List as ListCall}
+use Rattle.rules.specs.declared.Call.the-variants.{List as ListCall, ListBlock}
 use Rattle.replies.specs.Replies.{Said, saidBy}
 use Rattle.rules.specs.Listing.{list}
 use Rattle.rules.specs.Step.{effect, lists, step, outcomeOf, Performed}
 use Rattle.replies.proofs.Sayable.{Sayable}
 use Rattle.rules.proofs.Said.{step-sayable}
-use Rattle.index.proofs.Performs.{answered-performed, wrote-performed}
+use Rattle.index.proofs.Performs.{answered-performed, list-performed, list-block-performed}
 use Rattle.board.specs.Jobs.{jobKey, jobTests, behind, onJob}
 use Rattle.page_index.specs.declared.PageIndexReply.{PageIndexReply}
-use Rattle.page_index.specs.Told.{Tells, Told, ToldWriting}
+use Rattle.page_index.specs.Told.{Tells, Told, ToldWriting, ToldBlock, nextSaid}
 use Rattle.page_index.proofs.Tellings.{tells-same}
 
 -- A call was performed, and its answer told in the three numbers of r.
@@ -56,9 +56,24 @@ module _ (a l : List ℕ) (r : PageIndexReply) where
       let answer = answer-of ((step a l ListCall) .outcome) s in
       record {
         answer = answer;
-        performed = wrote-performed a l answer l′ (record { reply = s .says; stores = refl; left = t .left });
+        performed = list-performed a l answer l′ (record { reply = s .says; stores = refl; left = t .left });
         tells = answer-tells ((step a l ListCall) .outcome) s r (t .told);
       }
+
+  -- What `page_index_list_block` promises; and the word at `next`, which held m, holds what the answer says of it.
+  pub list-block-told-performed : (i : ℕ) (l′ : List ℕ) (m n : ℕ) → ToldBlock a i r l l′ m n
+      → (t : ToldPerformed (ListBlock i) a l r a l′) × (n ≡ nextSaid (saidBy (t .answer .reply)) m)
+  unfolding step effect
+  list-block-told-performed i l′ m n t =
+      let s = step-sayable a l (ListBlock i) in
+      let answer = answer-of ((step a l (ListBlock i)) .outcome) s in (
+        record {
+          answer = answer;
+          performed = list-block-performed a l answer i l′ (record { reply = s .says; stores = refl; left = t .writing .left });
+          tells = answer-tells ((step a l (ListBlock i)) .outcome) s r (t .writing .told);
+        },
+        t .next ∙ ap (λ (said : Said). nextSaid said m) (sym (s .says)),
+      )
 
   -- What `month_board_set`, `_read` and `_remove` promise, where the board's tests pass: the index's call on the job's key.
   pub job-told-performed : (year month number : ℕ) (call : ℕ → Call) → lists (call (jobKey year month number)) ≡ false

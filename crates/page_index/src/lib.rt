@@ -3,14 +3,16 @@
 mod month_board;
 
 use replies::Answer;
+use replies::Following;
 use replies::Reply;
 use replies::refusal_number;
+ghost use mathlib.Core.Path.{_≡_};
 ghost use lib.ListN.{length};
 ghost use Rattle.rules.specs.declared.Call.the-variants.{Format, Get, Put, Remove, Merge, Mend};
 ghost use Rattle.replies.specs.Replies.{saidBy};
 ghost use Rattle.rules.specs.Listing.{list as listing};
 ghost use Rattle.rules.specs.Step.{outcomeOf};
-ghost use Rattle.page_index.specs.Told.{Tells, Told, ToldWriting};
+ghost use Rattle.page_index.specs.Told.{Tells, Told, ToldWriting, ToldBlock, nextSaid};
 
 // The code of the reply absent; done is 0, a refusal has its number.
 const ABSENT: u32 = 255;
@@ -39,6 +41,11 @@ pub(crate) fn told(answer: Answer) -> PageIndexReply
             code: 0,
             stores,
             value: found,
+        },
+        Reply::Listed(count, _) => PageIndexReply {
+            code: 0,
+            stores,
+            value: count,
         },
         Reply::Absent => PageIndexReply {
             code: ABSENT,
@@ -117,4 +124,36 @@ pub extern "C" fn page_index_list(words: &[u64], list: &mut [u64]) -> PageIndexR
     ensures { λ r. ⌜ ToldWriting (listing (now (words .entry)) (length (now (list .entry)))) r (now (list .entry)) (now (list .exit)) ⌝ }
 {
     told(index::list(words, list))
+}
+
+// What `*next` becomes behind a reply: the index of the block that follows, or 0 after the last; any other
+// reply leaves what was there before.
+fn next_told(reply: Reply, before: u64) -> u64
+    ensures { λ r. ⌜ r ≡ nextSaid (saidBy reply) before ⌝ }
+{
+    let Reply::Listed(_, following) = reply else {
+        return before;
+    };
+    match following {
+        Following::Next(index) => index,
+        Following::Last => 0,
+    }
+}
+
+// List of one block. `next` gets the index of the block that follows, or 0 after the last; a refusal
+// leaves it as it was.
+#[no_mangle]
+pub extern "C" fn page_index_list_block(
+    words: &[u64],
+    index: u64,
+    list: &mut [u64],
+    next: &mut u64,
+) -> PageIndexReply
+    ensures { λ r. ⌜ ToldBlock (now (words .entry)) index r (now (list .entry)) (now (list .exit)) (now (next .entry)) (now (next .exit)) ⌝ }
+{
+    let answer = index::list_block(words, index, list);
+    let reply = answer.reply;
+    let follows = next_told(reply, *next);
+    *next = follows;
+    told(answer)
 }

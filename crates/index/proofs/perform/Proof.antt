@@ -2,7 +2,7 @@
 -- Assumes nothing.
 use mathlib.Core.Path.{refl}
 use borrow.Author.Needs.{needs}
-use Rattle.index.proofs.Performs.{performed, wrote-performed}
+use Rattle.index.proofs.Performs.{performed, list-performed, list-block-performed}
 use Rattle.index.proofs.perform.Statement.{statement}
 use Rattle.index.proofs.perform.Tie as tie
 
@@ -48,6 +48,12 @@ enum-told c = search needs
 list-requires : tie.Need-list-requires
 list-requires c κs = search needs
 
+enum-known-call-7 : tie.Need-enum-known-call-7
+enum-known-call-7 c = search needs
+
+list-block-requires : tie.Need-list-block-requires
+list-block-requires c κs = search needs
+
 same-length : tie.Need-same-length
 same-length c = search needs
 
@@ -91,7 +97,17 @@ same-length-8 : tie.Need-same-length-8
 same-length-8 c = search needs
 
 returns-7 : tie.Need-returns-7
-returns-7 c = rw (c .before .before .before .before .before .enum-told .given .1) (wrote-performed _ _ _ _ (c .before .before .list .ensures))
+returns-7 c = rw (c .before .before .before .before .before .enum-told .given .1) (list-performed _ _ _ _ (c .before .before .list .ensures))
+
+same-length-9 : tie.Need-same-length-9
+same-length-9 c = search needs
+
+same-length-10 : tie.Need-same-length-10
+same-length-10 c = search needs
+
+returns-8 : tie.Need-returns-8
+returns-8 c =
+    rw (c .before .before .before .before .before .before .call7 .given .1) (list-block-performed _ _ _ _ _ (c .before .before .list-block .ensures))
 
 pub perform-spec : {M : Type 1} → statement M
-perform-spec = tie.close (tie.spec enum-known-call format-requires enum-known-call-2 get-requires enum-known-call-3 put-requires enum-known-call-4 remove-requires enum-known-call-5 merge-requires enum-known-call-6 mend-requires enum-told list-requires same-length returns same-length-2 returns-2 same-length-3 returns-3 same-length-4 returns-4 same-length-5 returns-5 same-length-6 returns-6 same-length-7 same-length-8 returns-7)
+perform-spec = tie.close (tie.spec enum-known-call format-requires enum-known-call-2 get-requires enum-known-call-3 put-requires enum-known-call-4 remove-requires enum-known-call-5 merge-requires enum-known-call-6 mend-requires enum-told list-requires enum-known-call-7 list-block-requires same-length returns same-length-2 returns-2 same-length-3 returns-3 same-length-4 returns-4 same-length-5 returns-5 same-length-6 returns-6 same-length-7 same-length-8 returns-7 same-length-9 same-length-10 returns-8)

@@ -5,7 +5,7 @@ use native.Mathlib.Omega.{arith}
 use Rattle.rules.proofs.Keys.{width-le}
 use Rattle.layout.proofs.Shapes.{bounds}
 use Rattle.layout.proofs.Entries.{entry-word}
-use Rattle.index.proofs.Listings.{leader-bounds}
+use Rattle.index.proofs.Listings.{leader-below, leader-bounds}
 use Rattle.index.proofs.listing.read_block.Statement.{statement}
 use Rattle.index.proofs.listing.read_block.Tie as tie
 
@@ -13,13 +13,13 @@ pow2-requires : tie.Need-pow2-requires
 pow2-requires c κs = let b = bounds (c .before .pre .0 .0) in omega arith
 
 add-at : tie.Need-add-at
-add-at c = let b = bounds (c .before .before .pre .0 .0) in omega (arith, rw (c .before .before .pre .0 .0 .depth-read) at (c .before .before .pre .1 .0))
+add-at c = let b = bounds (c .before .before .pre .0 .0) in omega (arith, leader-below (c .before .before .pre .0 .0) (c .before .before .pre .0 .1) _ (c .before .before .pre .1))
 
 mul-entry : tie.Need-mul-entry
-mul-entry c = let b = bounds (c .before .before .pre .0 .0) in omega (arith, rw (c .before .before .pre .0 .0 .depth-read) at (c .before .before .pre .1 .0))
+mul-entry c = let b = bounds (c .before .before .pre .0 .0) in omega (arith, leader-below (c .before .before .pre .0 .0) (c .before .before .pre .0 .1) _ (c .before .before .pre .1))
 
 shared-slice-read-entry : tie.Need-shared-slice-read-entry
-shared-slice-read-entry c = let b = bounds (c .before .before .before .pre .0 .0) in omega (arith, rw (c .before .before .before .pre .0 .0 .depth-read) at (c .before .before .before .pre .1 .0))
+shared-slice-read-entry c = let b = bounds (c .before .before .before .pre .0 .0) in omega (arith, leader-below (c .before .before .before .pre .0 .0) (c .before .before .before .pre .0 .1) _ (c .before .before .before .pre .1))
 
 local-depth-of-requires : tie.Need-local-depth-of-requires
 local-depth-of-requires c κs = search needs
@@ -30,26 +30,26 @@ segment-of-requires c κs = search needs
 segment-base-requires : tie.Need-segment-base-requires
 segment-base-requires c κs =
     let b = bounds (c .before .before .before .before .before .pre .0 .0) in
-    let l = leader-bounds (c .before .before .before .before .before .pre .0 .0) (c .before .before .before .before .before .pre .0 .1) _ (c .before .before .before .before .before .pre .1 .0) (c .before .before .before .before .before .pre .1 .1) _ (c .before .before .before .pow2 .ensures) in
+    let l = leader-bounds (c .before .before .before .before .before .pre .0 .0) (c .before .before .before .before .before .pre .0 .1) _ (c .before .before .before .before .before .pre .1) _ (c .before .before .before .pow2 .ensures) in
     (omega arith, rw (c .segment-of .ensures) (l .segment-small))
 
 block-bits-requires : tie.Need-block-bits-requires
 block-bits-requires c κs =
     let b = bounds (c .before .before .before .before .before .before .pre .0 .0) in
-    let l = leader-bounds (c .before .before .before .before .before .before .pre .0 .0) (c .before .before .before .before .before .before .pre .0 .1) _ (c .before .before .before .before .before .before .pre .1 .0) (c .before .before .before .before .before .before .pre .1 .1) _ (c .before .before .before .before .pow2 .ensures) in
-    (rw (c .before .before .local-depth-of .ensures) (l .depth-low), b .depth-high, rw (c .before .before .before .before .before .before .pre .0 .0 .depth-read) at (c .before .before .before .before .before .before .pre .1 .0))
+    let l = leader-bounds (c .before .before .before .before .before .before .pre .0 .0) (c .before .before .before .before .before .before .pre .0 .1) _ (c .before .before .before .before .before .before .pre .1) _ (c .before .before .before .before .pow2 .ensures) in
+    (rw (c .before .before .local-depth-of .ensures) (l .depth-low), b .depth-high, leader-below (c .before .before .before .before .before .before .pre .0 .0) (c .before .before .before .before .before .before .pre .0 .1) _ (c .before .before .before .before .before .before .pre .1))
 
 block-width-requires : tie.Need-block-width-requires
 block-width-requires c κs =
     let b = bounds (c .before .before .before .before .before .before .before .pre .0 .0) in
-    let l = leader-bounds (c .before .before .before .before .before .before .before .pre .0 .0) (c .before .before .before .before .before .before .before .pre .0 .1) _ (c .before .before .before .before .before .before .before .pre .1 .0) (c .before .before .before .before .before .before .before .pre .1 .1) _ (c .before .before .before .before .before .pow2 .ensures) in
+    let l = leader-bounds (c .before .before .before .before .before .before .before .pre .0 .0) (c .before .before .before .before .before .before .before .pre .0 .1) _ (c .before .before .before .before .before .before .before .pre .1) _ (c .before .before .before .before .before .pow2 .ensures) in
     (rw (c .before .before .before .local-depth-of .ensures) (l .depth-low), b .depth-high)
 
 add-next : tie.Need-add-next
 add-next c =
     let b = bounds (c .before .before .before .before .before .before .before .before .pre .0 .0) in
     let w = width-le (c .before .before .before .before .before .before .before .before .args .header .depth) (c .before .before .before .before .local-depth-of .result) (b .depth-high) in
-    omega (arith, c .block-width .ensures, rw (c .before .before .before .before .before .before .before .before .pre .0 .0 .depth-read) at (c .before .before .before .before .before .before .before .before .pre .1 .0))
+    omega (arith, c .block-width .ensures, leader-below (c .before .before .before .before .before .before .before .before .pre .0 .0) (c .before .before .before .before .before .before .before .before .pre .0 .1) _ (c .before .before .before .before .before .before .before .before .pre .1))
 
 returns : tie.Need-returns
 returns c =

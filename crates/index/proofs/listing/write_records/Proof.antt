@@ -1,7 +1,6 @@
 -- `index::listing::write_records` meets its contract. The invariant: the index leads a block, and the records of the indices
 -- below it are written.
 -- Assumes nothing.
-use borrow.Author.Needs.{needs}
 use native.Mathlib.Omega.{arith}
 use mathlib.Core.Path.{_≡_, refl, _∙_}
 use Prim.Native.Nat.{_-_, _≤_}
@@ -10,12 +9,12 @@ use Rattle.rules.specs.Layout.{depth}
 use Rattle.rules.specs.Scan.{leader}
 use Rattle.rules.specs.Listing.{wordsOf}
 use Rattle.rules.proofs.Scan.{leader-zero}
+use Rattle.rules.proofs.BlockRecords.{recordsTo, records-start, records-end}
 use Rattle.stores.specs.Written.{Written}
 use Rattle.stores.proofs.Written.{written-none}
 use Rattle.rules.proofs.Listing.{words-none, length-words}
 use Rattle.layout.proofs.Shapes.{bounds}
-use Rattle.segment.proofs.Parts.{span, part-length}
-use Rattle.index.proofs.Listings.{recordsTo, records-start, records-end, Turn, turn, write-turn}
+use Rattle.index.proofs.Listings.{Turn, turn, loop-leads, write-turn}
 use Rattle.index.proofs.listing.write_records.Statement.{statement}
 use Rattle.index.proofs.listing.write_records.Tie as tie
 
@@ -37,50 +36,36 @@ loop-holds c = (omega arith, leader-zero _ _, refl, rw (records-start, words-non
 
 read-block-requires : tie.Need-read-block-requires Inv-loop μ-loop
 read-block-requires c κs =
-    (c .before .before .before .before .before .pre .0, (rw (c .before .before .before .before .before .pre .0 .0 .depth-read) (omega (arith, c .before .before .pow2 .ensures)), c .before .loop .inv .1))
+    let p = c .before .before .before .before .before .pre .0 in
+    (p, loop-leads (p .0) _ (c .before .before .pow2 .ensures) _ (c .loop-test .taken) (c .before .loop .inv .1))
 
 -- The turn of the loop whose block has been read.
 turn-at : (c : tie.After-read-block Inv-loop μ-loop)
     → Turn (c .before .before .before .before .before .before .args .words .now) (c .before .before .before .pow2 .result) (c .before .before .loop .i) (c .read-block .result)
 turn-at c =
     let p = c .before .before .before .before .before .before .pre .0 in
-    turn (p .0) (p .1) _ (c .before .before .before .pow2 .ensures) _ (c .before .loop-test .taken) (c .before .before .loop .inv .1) _ (c .read-block .ensures)
+    turn (p .0) (p .1) _ (c .before .before .before .pow2 .ensures) _
+    (loop-leads (p .0) _ (c .before .before .before .pow2 .ensures) _ (c .before .loop-test .taken) (c .before .before .loop .inv .1)) _ (c .read-block .ensures)
 
-add-write-live : tie.Need-add-write-live Inv-loop μ-loop
-add-write-live c = let t = turn-at c in omega arith
-
-mul-write-live : tie.Need-mul-write-live Inv-loop μ-loop
-mul-write-live c = let t = turn-at c in omega arith
-
-sub-write-live : tie.Need-sub-write-live Inv-loop μ-loop
-sub-write-live c = search needs
-
-part-write-live-start : tie.Need-part-write-live-start Inv-loop μ-loop
-part-write-live-start c = search needs
-
-part-write-live-end : tie.Need-part-write-live-end Inv-loop μ-loop
-part-write-live-end c = let t = turn-at c in omega arith
-
-write-live-requires : tie.Need-write-live-requires Inv-loop μ-loop
-write-live-requires c κs =
-    let t = turn-at (c .before .before) in
-    let i = c .before .before .before .before .loop .inv in
-    rw (span (c .before .before .read-block .result .base))
-    (part-length _ _ (t .whole), t .depth-small, omega (arith, t .room, i .2, i .3 .behind, c .before .before .before .before .before .before .before .before .pre .1, length-words (recordsTo (c .before .before .before .before .before .before .before .before .args .words .now) (c .before .before .before .before .loop .i))))
+write-block-requires : tie.Need-write-block-requires Inv-loop μ-loop
+write-block-requires c κs =
+    let t = turn-at (c .before) in
+    let i = c .before .before .before .loop .inv in
+    (t .inside-array, omega (arith, t .room, i .2, i .3 .behind, c .before .before .before .before .before .before .before .pre .1, length-words (recordsTo (c .before .before .before .before .before .before .before .args .words .now) (c .before .before .before .loop .i))))
 
 loop-less : tie.Need-loop-less Inv-loop μ-loop
 loop-less c =
-    let t = turn-at (c .before .before .before .before .before) in
-    omega (arith, t .onwards, c .before .before .before .before .before .before .loop-test .taken)
+    let t = turn-at (c .before .before .before .before) in
+    omega (arith, t .onwards, c .before .before .before .before .before .loop-test .taken)
 
 loop-again : tie.Need-loop-again Inv-loop μ-loop
 loop-again c =
-    let t = turn-at (c .before .before .before .before .before) in
-    let i = c .before .before .before .before .before .before .before .loop .inv in (
+    let t = turn-at (c .before .before .before .before) in
+    let i = c .before .before .before .before .before .before .loop .inv in (
       t .inside,
-      t .leads,
-      c .before .before .write-live .kept .1 .1 .0 ∙ i .2,
-      write-turn t _ _ _ _ _ (i .3) (rw (span (c .before .before .before .before .before .read-block .result .base)) at (c .before .before .write-live .ensures)),
+      t .leads-next,
+      c .before .before .write-block .kept .1 .1 .0 ∙ i .2,
+      write-turn t _ _ _ _ _ (i .3) (c .before .before .write-block .ensures),
     )
 
 same-length : tie.Need-same-length Inv-loop μ-loop
@@ -100,12 +85,7 @@ write-records-spec =
     pow2-requires
     loop-holds
     read-block-requires
-    add-write-live
-    mul-write-live
-    sub-write-live
-    part-write-live-start
-    part-write-live-end
-    write-live-requires
+    write-block-requires
     loop-less
     loop-again
     same-length

@@ -1,0 +1,49 @@
+-- `index::listing::count_block` meets its contract.
+-- Assumes nothing.
+use borrow.Author.Needs.{needs}
+use native.Mathlib.Omega.{arith}
+use mathlib.Core.Path.{ap, _∙_}
+use lib.ListN.{length}
+use Rattle.segment.proofs.Parts.{span, part-length, part-records}
+use Rattle.index.proofs.listing.count_block.Statement.{statement}
+use Rattle.index.proofs.listing.count_block.Tie as tie
+
+add-count-live : tie.Need-add-count-live
+add-count-live c = omega (arith, c .before .pre .0)
+
+mul-count-live : tie.Need-mul-count-live
+mul-count-live c = omega (arith, c .before .pre .0)
+
+sub-count-live : tie.Need-sub-count-live
+sub-count-live c = search needs
+
+part-count-live-start : tie.Need-part-count-live-start
+part-count-live-start c = search needs
+
+part-count-live-end : tie.Need-part-count-live-end
+part-count-live-end c = omega (arith, c .before .pre .0)
+
+count-live-requires : tie.Need-count-live-requires
+count-live-requires c κs =
+    let p = c .before .before .pre in
+    (rw (span (c .before .before .args .place .base)) (part-length _ _ (p .0)), p .1)
+
+returns : tie.Need-returns
+returns c =
+    let p = c .before .before .before .pre in (
+      rw (span (c .before .before .before .args .place .base)) at (c .count-live .ensures .exact)
+          ∙ ap length (part-records _ _ (p .0) _ _),
+      c .count-live .ensures .small,
+    )
+
+pub count-block-spec : {M : Type 1} → statement M
+count-block-spec =
+    tie.close
+    (tie.spec
+    add-count-live
+    mul-count-live
+    sub-count-live
+    part-count-live-start
+    part-count-live-end
+    count-live-requires
+    returns)
