@@ -1,8 +1,9 @@
 // One call made on the index and on the model, each with an array of its own, and compared: reply,
-// number of stores, value, every word, and the list array. The answers are of the index, in the model's
-// numbers.
+// number of stores, value, next index, every word, and the list array. The answers are of the index, in
+// the model's numbers.
 use crate::arrays::Arrays;
 use crate::arrays::INDEX;
+use crate::arrays::LISTED;
 use crate::arrays::MODEL;
 use crate::arrays::TALLY;
 use crate::lists::LIST_FILL;
@@ -13,6 +14,7 @@ use crate::tally::FORMAT;
 use crate::tally::GET;
 use crate::tally::LENT;
 use crate::tally::LIST;
+use crate::tally::LIST_BLOCK;
 use crate::tally::MEND;
 use crate::tally::MERGE;
 use crate::tally::PUT;
@@ -30,6 +32,7 @@ use index_model::Call;
 use index_model::DONE;
 use index_model::NO_BUDDY;
 use index_model::NO_KEY;
+use index_model::NO_LEADER;
 use index_model::NO_SEGMENT;
 use index_model::NO_STORE;
 use index_model::Outcome;
@@ -37,11 +40,14 @@ use index_model::SHORT_LIST;
 use index_model::TOO_DEEP;
 use index_model::TOO_SHORT;
 use index_model::UNMENDED;
+use index_model::block_listing::block_records;
 use index_model::listing::records;
 use model_array::words::CELLS;
+use model_array::words::Cells;
 use model_array::words::WORDS;
 use model_array::words::word_at;
 use replies::Answer;
+use replies::Following;
 use replies::Reply;
 use replies::refusal_number;
 ghost use Prim.Native.Nat.{_≤_};
@@ -56,6 +62,7 @@ fn column_of(call: Call) -> usize {
         Call::Merge(_, _) => MERGE,
         Call::Mend(_) => MEND,
         Call::List(_) => LIST,
+        Call::ListBlock(_, _) => LIST_BLOCK,
     }
 }
 
@@ -87,6 +94,7 @@ fn request_of(call: Call) -> rules::Call {
         Call::Merge(key, allowance) => rules::Call::Merge { key, allowance },
         Call::Mend(allowance) => rules::Call::Mend { allowance },
         Call::List(_) => rules::Call::List,
+        Call::ListBlock(index, _) => rules::Call::ListBlock { index },
     }
 }
 
@@ -103,6 +111,27 @@ fn listed_on(words: &[u64], length: usize, list: &mut [u64], room: usize) -> Ans
     index::list(&words[..end], &mut list[..list_end])
 }
 
+// A list of one block of the first words of an array into the first words of a list array.
+fn block_listed_on(
+    words: &[u64],
+    length: usize,
+    index: u64,
+    list: &mut [u64],
+    room: usize,
+) -> Answer {
+    let end = within(length, words.len());
+    let list_end = within(room, list.len());
+    index::list_block(&words[..end], index, &mut list[..list_end])
+}
+
+// What follows a block in the model's numbers: 0 behind the last.
+fn next_in(following: Following) -> u64 {
+    match following {
+        Following::Next(index) => index,
+        Following::Last => 0,
+    }
+}
+
 // An answer of the index in the model's numbers.
 fn said_by(answer: Answer) -> Outcome {
     let stores = answer.stores;
@@ -112,21 +141,31 @@ fn said_by(answer: Answer) -> Outcome {
             reply: DONE,
             stores,
             value: 0,
+            next: 0,
         },
         Reply::Value(value) => Outcome {
             reply: DONE,
             stores,
             value,
+            next: 0,
+        },
+        Reply::Listed(count, following) => Outcome {
+            reply: DONE,
+            stores,
+            value: count,
+            next: next_in(following),
         },
         Reply::Absent => Outcome {
             reply: ABSENT,
             stores,
             value: 0,
+            next: 0,
         },
         Reply::Refused(refusal) => Outcome {
             reply: refusal_number(refusal),
             stores,
             value: 0,
+            next: 0,
         },
     }
 }
@@ -136,26 +175,37 @@ pub fn make(words: &mut [u64], length: usize, call: Call) -> Outcome {
     said_by(made_on(words, length, call))
 }
 
-// Whether the call may be refused so, by document 01's table of refusals, and for a merge by document 02.
+// Whether the call may be refused so, by document 01's table of refusals, and by document 02 for a merge and
+// a list of one block.
 fn may_refuse(call: usize, refusal: u32) -> bool {
     match refusal {
         NO_STORE | BROKEN => call != FORMAT,
         NO_KEY => call == GET || call == PUT || call == REMOVE || call == MERGE,
-        UNMENDED => call == PUT || call == REMOVE || call == MERGE || call == LIST,
+        UNMENDED => call != FORMAT && call != GET && call != MEND,
         TOO_DEEP | NO_SEGMENT => call == PUT,
-        CUT_OFF => call != GET && call != LIST,
+        CUT_OFF => call != GET && call != LIST && call != LIST_BLOCK,
         BAD_SHAPE | TOO_SHORT => call == FORMAT,
-        SHORT_LIST => call == LIST,
+        SHORT_LIST => call == LIST || call == LIST_BLOCK,
         NO_BUDDY | BOTH_LIVE => call == MERGE,
+        NO_LEADER => call == LIST_BLOCK,
         _ => false,
+    }
+}
+
+// Whether something can follow a block so: no block is behind another at index 0.
+fn may_follow(following: Following) -> bool {
+    match following {
+        Following::Next(index) => index != 0,
+        Following::Last => true,
     }
 }
 
 // Whether the documents allow the call this reply.
 fn may_say(call: usize, reply: Reply) -> bool {
     match reply {
-        Reply::Done => call != GET && call != LIST,
+        Reply::Done => call != GET && call != LIST && call != LIST_BLOCK,
         Reply::Value(_) => call == GET || call == LIST,
+        Reply::Listed(_, following) => call == LIST_BLOCK && may_follow(following),
         Reply::Absent => call == GET || call == REMOVE,
         Reply::Refused(refusal) => may_refuse(call, refusal_number(refusal)),
     }
@@ -168,6 +218,7 @@ fn agrees(call: usize, answer: Answer, outcome: Outcome) -> bool {
     said.reply == outcome.reply
         && said.stores == outcome.stores
         && said.value == outcome.value
+        && said.next == outcome.next
         && may_say(call, reply)
 }
 
@@ -206,27 +257,56 @@ fn judge(
     said
 }
 
+// The row of the model's records that a list is due to leave, of all blocks or of one.
+fn due_list(words: &Cells, length: usize, call: Call) -> Cells {
+    match call {
+        Call::ListBlock(index, _) => block_records(words, length, index),
+        _ => records(words, length),
+    }
+}
+
+// Makes a list on the model, after the index left this list array, and compares. The list array is kept.
+fn judge_list(arrays: &mut Arrays, call: Call, answer: Answer, list: &Cells) -> Outcome {
+    arrays[LISTED] = *list;
+    let mut due = [0u64; CELLS];
+    let length = arrays[TALLY][LENT] as usize;
+    let outcome = index_model::perform(&mut arrays[MODEL], length, call);
+    if outcome.reply == DONE {
+        due = due_list(&arrays[MODEL], length, call);
+    }
+    let is_listed = is_list_of(list, &due);
+    judge(arrays, call, answer, outcome, is_listed)
+}
+
 // Makes a list on both, with `room` words of a list array.
 fn compare_list(arrays: &mut Arrays, room: usize) -> Outcome {
     let mut list = [LIST_FILL; CELLS];
-    let mut due = [0u64; CELLS];
     let length = arrays[TALLY][LENT] as usize;
     let answer = listed_on(&arrays[INDEX], length, &mut list, room);
-    let outcome = index_model::perform(&mut arrays[MODEL], length, Call::List(room));
-    if outcome.reply == DONE {
-        due = records(&arrays[MODEL], length);
-    }
-    let is_listed = is_list_of(&list, &due);
-    judge(arrays, Call::List(room), answer, outcome, is_listed)
+    judge_list(arrays, Call::List(room), answer, &list)
 }
 
-// Makes a call on both, and compares and counts it.
-pub fn compare(arrays: &mut Arrays, call: Call) -> Outcome {
-    if let Call::List(room) = call {
-        return compare_list(arrays, room);
-    }
+// Makes a list of one block on both, with `room` words of a list array.
+fn compare_list_block(arrays: &mut Arrays, index: u64, room: usize) -> Outcome {
+    let mut list = [LIST_FILL; CELLS];
+    let length = arrays[TALLY][LENT] as usize;
+    let answer = block_listed_on(&arrays[INDEX], length, index, &mut list, room);
+    judge_list(arrays, Call::ListBlock(index, room), answer, &list)
+}
+
+// Makes a call that lists nothing on both.
+fn compare_other(arrays: &mut Arrays, call: Call) -> Outcome {
     let length = arrays[TALLY][LENT] as usize;
     let answer = made_on(&mut arrays[INDEX], length, call);
     let outcome = index_model::perform(&mut arrays[MODEL], length, call);
     judge(arrays, call, answer, outcome, true)
+}
+
+// Makes a call on both, and compares and counts it.
+pub fn compare(arrays: &mut Arrays, call: Call) -> Outcome {
+    match call {
+        Call::List(room) => compare_list(arrays, room),
+        Call::ListBlock(index, room) => compare_list_block(arrays, index, room),
+        _ => compare_other(arrays, call),
+    }
 }

@@ -2,6 +2,6 @@
 // counted; and the table of what was counted.
 pub mod arrays;
 pub mod compare;
-mod lists;
+pub mod lists;
 pub mod report;
 pub mod tally;

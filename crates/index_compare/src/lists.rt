@@ -28,7 +28,7 @@ fn is_untouched(list: &Cells, from: usize) -> bool {
 }
 
 // Whether a list holds the words of a row, in the row's order, and nothing behind them.
-pub(crate) fn is_list_of(list: &Cells, row: &Cells) -> bool {
+pub fn is_list_of(list: &Cells, row: &Cells) -> bool {
     let count = row[0] as usize;
     begins_with(list, row, count) && is_untouched(list, count)
 }

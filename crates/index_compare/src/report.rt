@@ -27,6 +27,7 @@ const REPLY_NAMES: [Name; REPLIES] = [
     *b"10 short list ",
     *b"14 no buddy   ",
     *b"15 both live  ",
+    *b"16 no leader  ",
     *b"absent        ",
 ];
 
@@ -61,7 +62,7 @@ pub fn write_table(tally: &Cells, family: &Name) {
     write_line(tally, 0, FIRST_LINE_COLUMNS, family);
     io::write_all(
         STDOUT_FILENO,
-        b"\nreply               format         get         put      remove       merge        mend        list\n",
+        b"\nreply               format         get         put      remove       merge        mend        list  list block\n",
     );
     for reply in 0..REPLIES {
         let name = REPLY_NAMES[reply];

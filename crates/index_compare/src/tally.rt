@@ -6,11 +6,12 @@ use crate::arrays::TALLY;
 use index_model::ABSENT;
 use index_model::BOTH_LIVE;
 use index_model::NO_BUDDY;
+use index_model::NO_LEADER;
 use index_model::SHORT_LIST;
 use std::num::wrapping_add_u64;
 
 // The places of a line: one for each call in the lines of replies, of which line 0 uses the first six.
-pub(crate) const COLUMNS: usize = 7;
+pub(crate) const COLUMNS: usize = 8;
 
 pub(crate) const FIRST_LINE_COLUMNS: usize = 6;
 
@@ -42,8 +43,11 @@ pub(crate) const MEND: usize = 5;
 
 pub(crate) const LIST: usize = 6;
 
-// The lines of replies: done, the ten refusals of document 01, the two of a merge, absent.
-pub(crate) const REPLIES: usize = 14;
+pub(crate) const LIST_BLOCK: usize = 7;
+
+// The lines of replies: done, the ten refusals of document 01, the two of a merge, that of a list of one
+// block, absent.
+pub(crate) const REPLIES: usize = 15;
 
 // No line of replies: that of cases and calls.
 const NO_LINE: u32 = 0;
@@ -77,6 +81,7 @@ fn line_of(reply: u32) -> u32 {
         ABSENT => REPLIES as u32,
         NO_BUDDY => 12,
         BOTH_LIVE => 13,
+        NO_LEADER => 14,
         0..=SHORT_LIST => reply + 1,
         _ => NO_LINE,
     }

@@ -1,6 +1,6 @@
 // A call's draft: a copy of the array on which all due stores are made, whatever the allowance. Behind the
-// words of the index it has notes: how many stores are due, what the call has found, and the due stores
-// in order, each as address and value.
+// words of the index it has notes: how many stores are due, what the call has found, the next index of a
+// list of one block, and the due stores in order, each as address and value.
 use crate::CUT_OFF;
 use crate::Outcome;
 use model_array::words::Cells;
@@ -13,16 +13,19 @@ const DUE: usize = WORDS;
 
 const FOUND: usize = WORDS + 1;
 
-const NOTES: usize = WORDS + 2;
+const NEXT: usize = WORDS + 2;
+
+const NOTES: usize = WORDS + 3;
 
 // The stores that can be noted; document 01's bound is 9,764.
-const MOST_STORES: u64 = 9999;
+const MOST_STORES: u64 = 9998;
 
 // A draft of this array, with no store due and nothing found.
 pub(crate) fn draft_of(words: &Cells) -> Cells {
     let mut draft = *words;
     draft[DUE] = 0;
     draft[FOUND] = 0;
+    draft[NEXT] = 0;
     draft
 }
 
@@ -47,6 +50,11 @@ pub(crate) fn note_found(draft: &mut Cells, value: u64) {
     draft[FOUND] = value;
 }
 
+// Notes the index of the block behind the one listed, 0 for none.
+pub(crate) fn note_next(draft: &mut Cells, index: u64) {
+    draft[NEXT] = index;
+}
+
 // Makes the first `count` noted stores on the array.
 fn make_stores(words: &mut Cells, draft: &Cells, count: u64) {
     for i in 0..count {
@@ -65,6 +73,7 @@ pub(crate) fn carry_out(words: &mut Cells, draft: &Cells, reply: u32, allowance:
             reply: CUT_OFF,
             stores: allowance,
             value: 0,
+            next: 0,
         };
     }
     make_stores(words, draft, due);
@@ -72,5 +81,6 @@ pub(crate) fn carry_out(words: &mut Cells, draft: &Cells, reply: u32, allowance:
         reply,
         stores: due as u32,
         value: draft[FOUND],
+        next: draft[NEXT],
     }
 }

@@ -5,6 +5,7 @@
 // marking.
 //
 // An index is the first `length` words of an array of the type `Cells`.
+pub mod block_listing;
 mod draft;
 mod formatting;
 pub mod listing;
@@ -16,6 +17,7 @@ mod removing;
 mod scan;
 mod splitting;
 
+use block_listing::plan_list_block;
 use draft::carry_out;
 use draft::draft_of;
 use draft::note_found;
@@ -61,13 +63,16 @@ pub const NO_BUDDY: u32 = 14;
 
 pub const BOTH_LIVE: u32 = 15;
 
+pub const NO_LEADER: u32 = 16;
+
 pub const ABSENT: u32 = 255;
 
 // An allowance that cuts no call off.
 pub const ALL_STORES: u32 = 4294967295;
 
 // A call: a format with D and S, a get with its key, a put with key and value, a remove and a merge with
-// their key, a mend, a list with the words of its list array. Those that store have their allowance last.
+// their key, a mend, a list with the words of its list array, a list of one block with its directory index
+// and the words of its list array. Those that store have their allowance last.
 pub enum Call {
     Format(u64, u64, u32),
     Get(u64),
@@ -76,13 +81,16 @@ pub enum Call {
     Merge(u64, u32),
     Mend(u32),
     List(usize),
+    ListBlock(u64, usize),
 }
 
-// What a call answers: its reply, the stores made, and a get's value or a list's number of records.
+// What a call answers: its reply, the stores made, a get's value or a list's number of records, and what
+// follows a block that was listed: the next block's index, or 0, which is never one, behind the last.
 pub struct Outcome {
     pub reply: u32,
     pub stores: u32,
     pub value: u64,
+    pub next: u64,
 }
 
 // Plans a get: the value of a key. It goes by the key's own entry alone.
@@ -117,6 +125,7 @@ fn plan(draft: &mut Cells, length: usize, call: Call) -> u32 {
         Call::Merge(key, _) => plan_merge(draft, length, key),
         Call::Mend(_) => plan_mend(draft, length),
         Call::List(room) => plan_list(draft, length, room),
+        Call::ListBlock(index, room) => plan_list_block(draft, length, index, room),
     }
 }
 

@@ -1,10 +1,9 @@
 // The records of a list, collected in a row in document 02's order (wish 3): block by block from the left
 // of the directory, and by rising slot number within a segment.
 use crate::DONE;
-use crate::NO_STORE;
 use crate::SHORT_LIST;
 use crate::draft::note_found;
-use crate::scan::verdict_of;
+use crate::scan::tests_of_list;
 use model_array::array::SLOTS;
 use model_array::array::Shape;
 use model_array::array::power;
@@ -19,7 +18,7 @@ use model_array::words::Cells;
 use model_array::words::append;
 
 // Puts the records of a block that are live, key then value, behind those of the row, slots rising.
-fn collect_block(words: &Cells, block: Block, row: &mut Cells) {
+pub(crate) fn collect_block(words: &Cells, block: Block, row: &mut Cells) {
     for slot in 0..SLOTS {
         let key = key_in(words, block, slot);
         if is_live(key, block) {
@@ -50,13 +49,9 @@ pub fn records(words: &Cells, length: usize) -> Cells {
 
 // Plans a list: how many records there are, if `room` words of a list array hold them.
 pub(crate) fn plan_list(draft: &mut Cells, length: usize, room: usize) -> u32 {
-    let shape = shape_of(draft, length);
-    if !shape.sound {
-        return NO_STORE;
-    }
-    let verdict = verdict_of(draft, shape);
-    if verdict != DONE {
-        return verdict;
+    let refusal = tests_of_list(draft, length);
+    if refusal != DONE {
+        return refusal;
     }
     let count = records(draft, length)[0];
     if (room as u64) < count {

@@ -72,6 +72,25 @@ pub(crate) fn verdict_of(words: &Cells, shape: Shape) -> u32 {
     DONE
 }
 
+// Whether the walk came to an index as a leader: it marks a block with the address of its leader.
+pub(crate) fn has_leader(words: &Cells, shape: Shape, index: u64) -> bool {
+    if index >= power(shape.depth) as u64 {
+        return false;
+    }
+    let mut marks = [0u64; CELLS];
+    mark_blocks(words, shape, &mut marks);
+    word_at(&marks, index as usize) == entry_address(shape.depth, index as u32) as u64
+}
+
+// What a list, of all blocks or of one, tests before anything else; done if nothing is in the way.
+pub(crate) fn tests_of_list(words: &Cells, length: usize) -> u32 {
+    let shape = shape_of(words, length);
+    if !shape.sound {
+        return NO_STORE;
+    }
+    verdict_of(words, shape)
+}
+
 // What a put, a remove or a merge tests before anything else, in document 01's order; done if nothing is
 // in the way.
 pub(crate) fn tests_of_change(words: &Cells, length: usize, key: u64) -> u32 {

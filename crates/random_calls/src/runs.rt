@@ -4,11 +4,16 @@ use crate::generator::next;
 use crate::generator::own_part;
 use index_model::ALL_STORES;
 use index_model::Call;
+use index_model::block_listing::block_records;
+use model_array::array::power;
+use model_array::blocks::Block;
+use model_array::blocks::block_of;
 use model_array::route::unfolded;
 use model_array::words::Cells;
 use model_array::words::WORDS;
 use model_array::words::set_word;
 use model_array::words::word_at;
+use std::num::wrapping_add_u32;
 use std::num::wrapping_add_usize;
 
 // The keys of a run. Each has an entry of three words in the table: the key, whether it has a value, and
@@ -16,6 +21,14 @@ use std::num::wrapping_add_usize;
 pub const KEYS: usize = 48;
 
 pub const ENTRY_WORDS: usize = 3;
+
+// The words of a list array that is always enough for one block.
+pub const PART_WORDS: usize = 128;
+
+// The weight of the upper half of a word, and the largest number.
+const UPPER_HALF: u64 = 4294967296;
+
+const LARGEST: u64 = 18446744073709551615;
 
 // The folded key of a key of a run. By the seed they are running numbers; of a few buckets, with any
 // route bits; of one bucket and few routes, so that segments get deep; or half of one route and half
@@ -88,6 +101,59 @@ fn room_for(size: usize, roll: u64) -> usize {
     }
 }
 
+// An index of no directory: 2^G, some way behind it, an index that is right but for its upper bits, or the
+// largest number.
+fn index_beyond(block: Block, roll: u64) -> u64 {
+    let end = power(block.depth) as u64;
+    match roll % 4 {
+        0 => end,
+        1 => end + roll / 4 % 256,
+        2 => UPPER_HALF + block.start as u64,
+        _ => LARGEST,
+    }
+}
+
+// The index of a list of one block: where the key's block begins, in its middle, behind it, a small number,
+// or one beyond the directory.
+fn index_for(block: Block, roll: u64) -> u64 {
+    match roll % 8 {
+        0..=2 => block.start as u64,
+        3 => wrapping_add_u32(block.start, block.width / 2) as u64,
+        4 => wrapping_add_u32(block.start, block.width) as u64,
+        5..=6 => roll / 8 % 8,
+        _ => index_beyond(block, roll / 8),
+    }
+}
+
+// The room of a list of one block: the words that are always enough, one less, just enough for its records,
+// one less or one more, or none.
+fn part_room(enough: usize, roll: u64) -> usize {
+    let needed = enough % WORDS;
+    match roll % 8 {
+        0..=2 => PART_WORDS,
+        3 => PART_WORDS - 1,
+        4 => needed,
+        5 => if needed == 0 { 0 } else { needed - 1 },
+        6 => needed + 1,
+        _ => 0,
+    }
+}
+
+// A list of one block of an index, near the block of a key.
+pub fn list_block_for(words: &Cells, key: u64, roll: u64) -> Call {
+    let index = index_for(block_of(words, WORDS, key), roll);
+    let enough = block_records(words, WORDS, index)[0] as usize;
+    Call::ListBlock(index, part_room(enough, roll / 16384))
+}
+
+// A call that changes nothing: one in four a get, the others a list of one block.
+fn reading_call(words: &Cells, key: u64, roll: u64) -> Call {
+    if roll % 4 == 0 {
+        return Call::Get(key);
+    }
+    list_block_for(words, key, roll / 4)
+}
+
 // A format with a shape that is refused, as a run may have it.
 fn refused_format(roll: u64) -> Call {
     match roll % 4 {
@@ -98,16 +164,16 @@ fn refused_format(roll: u64) -> Call {
     }
 }
 
-// The call of a step, by a random number. Half are puts that all their stores are allowed, one in eight of
-// these a merge instead.
-pub fn call_for(table: &Cells, roll: u64) -> Call {
+// The call of a step on an index, by a random number. Half are puts that all their stores are allowed, one
+// in eight of these a merge instead.
+pub fn call_for(words: &Cells, table: &Cells, roll: u64) -> Call {
     let key = word_at(table, entry_for(roll));
     let value = roll / 1024;
     match roll % 16 {
         0..=6 => Call::Put(key, value, ALL_STORES),
         7 => Call::Merge(key, ALL_STORES),
         8 | 9 => Call::Remove(key, remove_allowance(roll)),
-        10 => Call::Get(key),
+        10 => reading_call(words, key, value),
         11 => Call::List(room_for(size_of(table), value)),
         12 => Call::Mend((value % 2) as u32),
         13 => refused_format(value),

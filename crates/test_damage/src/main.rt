@@ -33,6 +33,7 @@ use random_calls::generator::own_part;
 use random_calls::generator::scatter;
 use random_calls::runs::call_for;
 use random_calls::runs::draw_keys;
+use random_calls::runs::list_block_for;
 use std::num::wrapping_add_u64;
 use std::num::wrapping_sub_u64;
 
@@ -101,7 +102,8 @@ fn leave_run(arrays: &mut Arrays) {
     let mut roll = from_seed(LEFT_SEED);
     for _ in 0..LEFT_STEPS {
         roll = next(roll);
-        let call = call_for(&arrays[TABLE], roll);
+        let words = arrays[SAVED];
+        let call = call_for(&words, &arrays[TABLE], roll);
         make(&mut arrays[SAVED], WORDS, call);
         make(&mut arrays[SAVED], WORDS, Call::Mend(ALL_STORES));
     }
@@ -259,16 +261,17 @@ fn any_format(roll: u64) -> Call {
 }
 
 // A random call on a damaged array.
-fn any_call(run: u64, roll: u64) -> Call {
+fn any_call(words: &Cells, run: u64, roll: u64) -> Call {
     let key = key_for(run, roll / 16);
     let allowance = allowance_for(roll / 65536);
     match roll % 16 {
         0..=3 => Call::Put(key, roll, allowance),
         4..=5 => Call::Remove(key, allowance),
-        6..=8 => Call::Merge(key, allowance),
-        9..=10 => Call::Get(key),
-        11..=12 => Call::Mend(allowance),
-        13..=14 => Call::List((roll / 65536 % 256) as usize),
+        6..=7 => Call::Merge(key, allowance),
+        8 => Call::Get(key),
+        9..=10 => Call::Mend(allowance),
+        11..=12 => Call::List((roll / 65536 % 256) as usize),
+        13..=14 => list_block_for(words, key, roll / 65536),
         _ => any_format(roll / 16),
     }
 }
@@ -278,7 +281,8 @@ fn call_on(arrays: &mut Arrays, run: u64, seed: u64) {
     let mut roll = seed;
     for _ in 0..CALLS_PER_DAMAGE {
         roll = next(roll);
-        compare(arrays, any_call(run, roll));
+        let call = any_call(&arrays[INDEX], run, roll);
+        compare(arrays, call);
     }
 }
 

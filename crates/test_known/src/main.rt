@@ -1,7 +1,9 @@
-// Family 1 of the test: document 01's known states a to k, and known merges. Each figure of the documents is
-// compared with what the index says, beside the comparison with the model.
+// Family 1 of the test: document 01's known states a to k, known merges and known lists of one block. Each
+// figure of the documents is compared with what the index says, beside the comparison with the model.
+mod block_lists;
 mod merges;
 
+use block_lists::test_block_lists;
 use index_compare::arrays::ARRAYS;
 use index_compare::arrays::Arrays;
 use index_compare::arrays::INDEX;
@@ -271,6 +273,7 @@ fn test_known(arrays: &mut Arrays) {
     states_e_f(arrays);
     state_g(arrays);
     test_merges(arrays);
+    test_block_lists(arrays);
     states_h_i(arrays);
     state_j(arrays);
     state_k(arrays);

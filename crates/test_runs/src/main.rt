@@ -1,7 +1,9 @@
 // Family 2 of the test: long runs by document 01's rule, at the depths 2 to 6, with keys that collide.
 // Puts that split and merges are cut at every number of their stores, mended and made again. A run ends
 // with its keys taken away one by one, and a merge behind each. After each step every key is looked up and
-// compared with the plain table.
+// compared with the plain table. Behind the random steps, and behind each key taken away, the lists of one
+// block, joined, are compared with the full listing.
+mod parts;
 mod table;
 
 use index_compare::arrays::ARRAYS;
@@ -23,6 +25,7 @@ use model_array::array::power;
 use model_array::array::words_before;
 use model_array::words::CELLS;
 use model_array::words::word_at;
+use parts::compare_parts;
 use random_calls::generator::from_seed;
 use random_calls::generator::next;
 use random_calls::generator::scatter;
@@ -156,7 +159,8 @@ fn call_step(arrays: &mut Arrays, entry: usize, call: Call) {
 
 // One step of a run, by a random number.
 fn step(arrays: &mut Arrays, roll: u64) {
-    let call = call_for(&arrays[TABLE], roll);
+    let words = arrays[INDEX];
+    let call = call_for(&words, &arrays[TABLE], roll);
     match roll % 16 {
         0..=7 => whole_step(arrays, entry_for(roll), call),
         12 => recover(arrays, (roll / 1024 % 2) as u32),
@@ -181,6 +185,7 @@ fn clear_key(arrays: &mut Arrays, number: u32) {
     call_step(arrays, entry, Call::Remove(key, ALL_STORES));
     whole_step(arrays, entry, Call::Merge(key, ALL_STORES));
     look_up_all(arrays);
+    compare_parts(arrays);
 }
 
 // Takes all keys away, one by one, with the merges that come to be possible.
@@ -205,6 +210,7 @@ fn run(arrays: &mut Arrays, setting: Setting) {
         ),
     );
     take_steps(arrays, setting.seed);
+    compare_parts(arrays);
     clear(arrays);
 }
 

@@ -37,8 +37,7 @@ fn is_as_told(arrays: &Arrays, number: u32) -> bool {
     match reply {
         Reply::Value(value) => has_value && value == word_at(&arrays[TABLE], at + 2),
         Reply::Absent => !has_value,
-        Reply::Done => false,
-        Reply::Refused(_) => false,
+        _ => false,
     }
 }
 

@@ -2,7 +2,8 @@
 // share their first twelve route bits fill segment 0; the put parts from them at the last and makes 9,764
 // stores. Once its key is removed again, merges join the blocks, the deepest first; the last one moves all
 // sixty-four records and has all 4,096 entries to store. Both are run with every allowance around the
-// borders of their phases.
+// borders of their phases. The block of the sixty-four keys is the largest that a list of one block meets:
+// it takes 128 words.
 use index_compare::arrays::ARRAYS;
 use index_compare::arrays::Arrays;
 use index_compare::arrays::INDEX;
@@ -16,6 +17,7 @@ use index_compare::tally::expect;
 use index_model::ALL_STORES;
 use index_model::Call;
 use index_model::DONE;
+use index_model::SHORT_LIST;
 use index_model::with_allowance;
 use model_array::array::power;
 use model_array::route::unfolded;
@@ -42,6 +44,14 @@ const SPLITS: u32 = 12;
 const COPY_STORES: u32 = 128;
 
 const UPDATE_STORES: u32 = 2;
+
+// The records of a block with no free slot, and the words that a list of it takes.
+const BLOCK_RECORDS: u64 = 64;
+
+const BLOCK_WORDS: usize = 128;
+
+// The index of the block of the sixty-four keys behind the put: the last of the directory.
+const MET_INDEX: u64 = 4095;
 
 // The allowances that are run around a border: ten below it, itself, and ten above.
 const AROUND: u32 = 21;
@@ -122,11 +132,35 @@ fn expect_stores(arrays: &mut Arrays, call: Call, stores: u32) {
     expect(arrays, seen.reply == DONE && seen.stores == stores);
 }
 
+// A list of the last block, of which every slot is live: 128 words are enough, one less is not.
+fn list_largest(arrays: &mut Arrays, index: u64) {
+    let short = compare(arrays, Call::ListBlock(index, BLOCK_WORDS - 1));
+    expect(arrays, short.reply == SHORT_LIST);
+    let seen = compare(arrays, Call::ListBlock(index, BLOCK_WORDS));
+    expect(arrays, seen.reply == DONE && seen.value == BLOCK_RECORDS);
+    expect(arrays, seen.next == 0);
+}
+
+// Lists of the thirteen blocks behind the put, each at the index that the one before says. Those before the
+// last have the put's record alone.
+fn list_blocks(arrays: &mut Arrays) {
+    let mut index: u64 = 0;
+    let mut records: u64 = 0;
+    for _ in 0..SPLITS {
+        let seen = compare(arrays, Call::ListBlock(index, BLOCK_WORDS));
+        index = seen.next;
+        records = wrapping_add_u64(records, seen.value);
+    }
+    expect(arrays, index == MET_INDEX && records == 1);
+    list_largest(arrays, index);
+}
+
 // The segment filled and saved, the whole put, and then the cut ones.
 fn test_put(arrays: &mut Arrays) {
     begin_case(arrays, WORST_WORDS);
     compare(arrays, Call::Format(12, 13, ALL_STORES));
     fill_segment(arrays, 1);
+    list_largest(arrays, 0);
     arrays[SAVED] = arrays[INDEX];
     expect_stores(arrays, worst_put(), WORST_PUT_STORES);
     cut_splits(arrays);
@@ -150,11 +184,13 @@ fn cut_merges(arrays: &mut Arrays) {
     cut_around(arrays, merge_met(), WORST_MERGE_STORES);
 }
 
-// The whole put on the arrays saved before it, its key taken away, and the merges. Before the last one the
-// keys get new values: segment 0 has their records still, stale, with the values that they had.
+// The whole put on the arrays saved before it, the blocks listed, its key taken away, and the merges. Before
+// the last one the keys get new values: segment 0 has their records still, stale, with the values that they
+// had.
 fn test_merge(arrays: &mut Arrays) {
     restore(arrays);
     expect_stores(arrays, worst_put(), WORST_PUT_STORES);
+    list_blocks(arrays);
     expect_stores(arrays, Call::Remove(unfolded(WORST_FOLDED), ALL_STORES), 1);
     join_blocks(arrays);
     fill_segment(arrays, 2);

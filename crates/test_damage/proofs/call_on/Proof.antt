@@ -11,6 +11,7 @@ call-on-spec =
     (λ arrays₀ run seed roll₀ counter₀ arrays roll counter. 10 - counter)
     (λ c. search needs)
     (λ c κs. search needs)
+    (λ c. search needs)
     (λ c κs. search needs)
     (λ c κs. search needs)
     (λ c. search needs)

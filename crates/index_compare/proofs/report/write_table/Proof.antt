@@ -8,7 +8,7 @@ write-table-spec =
     tie.close
     (tie.spec
     (λ tally family reply₀ reply. 0 ≤ reply)
-    (λ tally family reply₀ reply. 14 - reply)
+    (λ tally family reply₀ reply. 15 - reply)
     (λ c. search needs)
     (λ c κs. search needs)
     (λ c κs. search needs)

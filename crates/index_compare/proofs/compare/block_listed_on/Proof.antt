@@ -1,0 +1,18 @@
+use native.Mathlib.Omega.{arith}
+use lib.ListN.{length-take}
+use borrow.Author.Needs.{needs}
+use Rattle.index_compare.proofs.compare.block_listed_on.Statement.{statement}
+use Rattle.index_compare.proofs.compare.block_listed_on.Tie as tie
+
+pub block-listed-on-spec : {M : Type 1} → statement M
+block-listed-on-spec =
+    tie.close
+    (tie.spec
+    (λ c κs. search needs)
+    (λ c κs. search needs)
+    (λ c. simp length-take (omega arith))
+    (λ c. search needs)
+    (λ c. simp length-take (omega arith))
+    (λ c κs. search needs)
+    (λ c. search needs)
+    (λ c. search needs))
