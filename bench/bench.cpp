@@ -120,6 +120,18 @@ void list(benchmark::State &state) {
     for (auto _ : state) benchmark::DoNotOptimize(peer.list(out));
 }
 
+// One block after the other, each with 128 words; behind the last comes the first again.
+template <class Peer>
+void list_block(benchmark::State &state) {
+    Peer &peer = filled<Peer, true>();
+    Words out(128);
+    word index = 0, records = 0;
+    do records += peer.list_block(index, out);
+    while (index != 0);
+    must(records == in_use, "listing block by block");
+    for (auto _ : state) benchmark::DoNotOptimize(peer.list_block(index, out));
+}
+
 template <class Peer>
 void mend(benchmark::State &state) {
     Peer &peer = filled<Peer, true>();
@@ -300,6 +312,7 @@ void add_common() {
 template <class Peer>
 void add_scheme() {
     add<Peer>("list", list<Peer>);
+    add<Peer>("list of one block", list_block<Peer>);
     add<Peer>("mend", mend<Peer>);
     add<Peer>("put with a split", put_with_split<Peer>);
     add<Peer>("worst put", worst_put<Peer>);

@@ -24,10 +24,11 @@ using word = std::uint64_t;
 using Words = std::vector<word>;
 using Bytes = std::vector<std::uint8_t>;
 
-// The twin's print, which answers how many bytes it has written, and its merge. They are compiled apart
-// (twin_apart.cpp): beside the twin's other calls the compiler would arrange those in another way.
+// The twin's print, which answers how many bytes it has written, its merge and its listing of one block. They are
+// compiled apart (twin_apart.cpp): beside the twin's other calls the compiler would arrange those in another way.
 word twin_print(const word *words, std::size_t length, word year, std::uint8_t *buffer, std::size_t room);
 twin::Answer twin_merge(word *words, std::size_t length, word key);
+twin::Answer twin_list_block(const word *words, std::size_t length, word index, word *list, std::size_t room, word &next);
 
 constexpr std::uint32_t all = 0xffffffff;
 // The cabinet: 4 MiB of words, D = 12, S = 4,032.
@@ -71,6 +72,10 @@ class Ours {
     }
     void remove(word key) { page_index_remove(words.data(), words.size(), key, all); }
     word list(Words &out) const { return page_index_list(words.data(), words.size(), out.data(), out.size()).value; }
+    // Lists the block at this index, which becomes the next one, or 0 behind the last.
+    word list_block(word &index, Words &out) const {
+        return page_index_list_block(words.data(), words.size(), index, out.data(), out.size(), &index).value;
+    }
     void mend() { page_index_mend(words.data(), words.size(), all); }
     std::uint32_t merge(word key) {
         page_index_reply r = page_index_merge(words.data(), words.size(), key, all);
@@ -103,6 +108,9 @@ class Twin {
     }
     void remove(word key) { remove_call(words.data(), words.size(), key); }
     word list(Words &out) const { return list_call(const_cast<word *>(words.data()), words.size(), out.data(), out.size()).value; }
+    word list_block(word &index, Words &out) const {
+        return twin_list_block(words.data(), words.size(), index, out.data(), out.size(), index).value;
+    }
     void mend() { mend_call(words.data(), words.size()); }
     std::uint32_t merge(word key) {
         twin::Answer r = twin_merge(words.data(), words.size(), key);

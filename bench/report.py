@@ -15,8 +15,8 @@ HERE = pathlib.Path(__file__).parent
 PEERS = ["twin", "flat_hash_map", "unordered_map", "linear", "lmdb", "tkrzw", "sqlite"]
 WORK = [
     "get hit, running", "get hit, random", "get miss, running", "overwrite, running", "overwrite, random",
-    "put of a new page, running", "put of a new page, random", "remove, running", "remove, random", "fill, running", "fill, random", "list", "mend",
-    "put with a split", "worst put", "merge", "worst merge", "print of a full year",
+    "put of a new page, running", "put of a new page, random", "remove, running", "remove, random", "fill, running", "fill, random", "list",
+    "list of one block", "mend", "put with a split", "worst put", "merge", "worst merge", "print of a full year",
 ]
 # What a print of a full year may take, in times of its gets.
 MOST_GETS = 2

@@ -1,6 +1,7 @@
 /*
  * Formats an index of 264 words, puts three pages, gets two and lists them all. Then seventeen pages for
- * sixteen slots take a second segment, and a merge gives it back.
+ * sixteen slots take a second segment; the index is listed block by block, and a merge gives the segment
+ * back.
  */
 #include "page_index.h"
 
@@ -16,6 +17,18 @@ static void report(const char *call, struct page_index_reply reply)
 {
     printf("%s: code %" PRIu32 ", stores %" PRIu32 ", value %" PRIu64 "\n", call, reply.code, reply.stores,
            reply.value);
+}
+
+/* Lists the index block by block, with 128 words. */
+static void list_blocks(void)
+{
+    uint64_t list[128], index = 0;
+    struct page_index_reply reply;
+    do {
+        printf("at index %" PRIu64 ", ", index);
+        reply = page_index_list_block(words, WORDS, index, list, 128, &index);
+        report("list block", reply);
+    } while (reply.code == PAGE_INDEX_DONE && index != 0);
 }
 
 int main(void)
@@ -38,6 +51,10 @@ int main(void)
     for (uint64_t i = 0; i < 16; i++)
         page_index_put(words, WORDS, 1 + 16 * i, i, ALLOWANCE);
     report("put 257, with a split", page_index_put(words, WORDS, 257, 16, ALLOWANCE));
+    list_blocks();
+    uint64_t next = 0;
+    report("list block at index 2, behind the last", page_index_list_block(words, WORDS, 2, list, 6, &next));
+    report("list block into six words", page_index_list_block(words, WORDS, 0, list, 6, &next));
     report("merge 1, 257 in the way", page_index_merge(words, WORDS, 1, ALLOWANCE));
     report("remove 257", page_index_remove(words, WORDS, 257, ALLOWANCE));
     report("merge 1", page_index_merge(words, WORDS, 1, ALLOWANCE));

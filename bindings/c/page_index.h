@@ -11,6 +11,7 @@
  *   - `words` points to `len` words, aligned to eight bytes, that nobody else writes during the call.
  *     With `len` 0 it may be any pointer but NULL.
  *   - `list` points to `list_len` words that do not overlap the words of the index.
+ *   - `next` points to one word that overlaps neither of the two, and is not NULL.
  * Nothing else: every content of the array and every argument gets an answer. No call reads or writes
  * a word outside the array. Words behind those that the index needs are never touched.
  *
@@ -58,21 +59,24 @@ enum page_index_code {
     PAGE_INDEX_CUT_OFF = 7,    /* more stores were due than allowed */
     PAGE_INDEX_BAD_SHAPE = 8,  /* format: depth not 2 to 12, or segments not 1 to 2^depth */
     PAGE_INDEX_TOO_SHORT = 9,  /* format: fewer than 2^(depth + 1) + 128 * segments words */
-    PAGE_INDEX_SHORT_LIST = 10, /* list: the list array has fewer than two words for each record;
-                                   print, of the board: the buffer is shorter than the lines */
+    PAGE_INDEX_SHORT_LIST = 10, /* list and list block: the list array has fewer than two words for each
+                                   record, of all or of the one block; print, of the board: the buffer is
+                                   shorter than the lines */
     PAGE_INDEX_BAD_YEAR = 11,   /* given by the board alone: the year is not 1 to 9999 */
     PAGE_INDEX_BAD_MONTH = 12,  /* given by the board alone: the month is not 1 to 12 */
     PAGE_INDEX_BAD_NUMBER = 13, /* given by the board alone: the job number is not 0 to 4095 */
     PAGE_INDEX_NO_BUDDY = 14,   /* merge: one block fills the directory, or the other half of the block
                                    one depth shallower is split further */
     PAGE_INDEX_BOTH_LIVE = 15,  /* merge: some slot has a page in both segments */
+    PAGE_INDEX_NO_LEADER = 16,  /* list block: no block begins at this index of the directory */
     PAGE_INDEX_ABSENT = 255    /* get and remove: the key is not there */
 };
 
 /*
- * An answer. `stores` is the number of stores made in the array: 0 after the codes 1 to 4, 8 to 15 and
- * 255, and after every get, list, read and print. `value` is what a get or a read found, how many records
- * a list or how many bytes a print wrote; else 0. (Read and print are of the board.)
+ * An answer. `stores` is the number of stores made in the array: 0 after the codes 1 to 4, 8 to 16 and
+ * 255, and after every get, list, list block, read and print. `value` is what a get or a read found, how
+ * many records a list or a list block or how many bytes a print wrote; else 0. (Read and print are of the
+ * board.)
  */
 struct page_index_reply {
     uint32_t code;
@@ -131,6 +135,23 @@ struct page_index_reply page_index_merge(uint64_t *words, size_t len, uint64_t k
  * of one untouched index are equal word for word. Codes: 0 with the number of records, 1, 3, 4, 10.
  */
 struct page_index_reply page_index_list(const uint64_t *words, size_t len, uint64_t *list, size_t list_len);
+
+/*
+ * Lists one block: the one that begins at this index of the directory. Writes its records to the list
+ * array as page_index_list does, and to `*next` the index at which the next block begins, or 0 if this was
+ * the last: no next block begins at 0. A list array of 128 words is always enough.
+ *
+ * From index 0 on, each time at the index that the call before has named, until that is 0, the records
+ * are those of page_index_list, in its order, if nobody changes the index in between. After a change blocks
+ * may begin elsewhere: start at 0 again.
+ *
+ * Each call reads the whole directory, and gives 1, 3 and 4 as page_index_list does. Then comes 16 where no
+ * block begins at the index, which may lie within a block or behind the directory's end; then 10, for the
+ * records of this block alone. A refusal leaves the list array and `*next` as they were. Codes: 0 with the
+ * number of records, 1, 3, 4, 10, 16.
+ */
+struct page_index_reply page_index_list_block(const uint64_t *words, size_t len, uint64_t index,
+                                              uint64_t *list, size_t list_len, uint64_t *next);
 
 #ifdef __cplusplus
 }

@@ -1,9 +1,10 @@
 // Power cuts for real. A child process makes calls of the index and of the month board on an index in a
 // memory-mapped file and notes each call before it begins and after it was answered. The parent kills it at
-// a random moment, maps the file again, mends, and checks every key and the lines of a year against the
-// answered calls; the call in flight may have happened or not. After a merge that was cut, the directory
-// must be that of the whole merge, or the old one. Built with -DFAULT=NAME it runs the twin with that fault
-// in the place of the library, and must find pages lost or invented, or an index that cannot be mended.
+// a random moment, maps the file again, mends, and checks every key, the listing block by block and the
+// lines of a year against the answered calls; the call in flight may have happened or not. After a merge
+// that was cut, the directory must be that of the whole merge, or the old one. Built with -DFAULT=NAME it
+// runs the twin with that fault in the place of the library, and must find pages lost or invented, or an
+// index that cannot be mended.
 //
 //     cuts FILE SEED
 #include "../../bindings/c/month_board.h"
@@ -304,7 +305,7 @@ double now() {
 struct Counts {
     int kills = 0, in_call = 0, inside = 0, mends = 0, inside_board = 0, inside_merge = 0, finished = 0, undone = 0;
     long answered = 0, by_board = 0, checked = 0, lost = 0, invented = 0, other_stores = 0, unmendable = 0;
-    long other_lines = 0, other_directories = 0;
+    long other_lines = 0, other_directories = 0, other_listings = 0;
 
     bool reached() const {
         return kills >= wanted_kills && inside >= wanted_inside && inside_board >= wanted_by_board &&
@@ -313,7 +314,7 @@ struct Counts {
 
     // What a user would notice, and all that differs.
     long harm() const { return lost + invented + unmendable; }
-    long differences() const { return harm() + other_stores + other_lines + other_directories; }
+    long differences() const { return harm() + other_stores + other_lines + other_directories + other_listings; }
 };
 
 // Whether the file holds what some number of the call's stores leave; says whether it is some but not all.
@@ -356,6 +357,20 @@ std::string lines_of(const Table &table) {
     return text;
 }
 
+// The pages of the index, listed block by block with 128 words. No table has page 0: it stands for a refusal, and for
+// a page that comes twice.
+Table listed_blocks(const word *file) {
+    Table found;
+    word records[128], index = 0;
+    do {
+        page_index_reply got = page_index_list_block(file, size, index, records, 128, &index);
+        if (got.code != PAGE_INDEX_DONE) return {{0, got.code}};
+        for (word i = 0; i < got.value; i++)
+            if (!found.emplace(records[2 * i], records[2 * i + 1]).second) found[0] = records[2 * i];
+    } while (index != 0);
+    return found;
+}
+
 // Every key that was ever used, against the table before the call in flight or after it.
 void check(const word *file, const Table &before, const Table &after, const Table &used, Counts &counts) {
     for (const auto &[key, unused] : used) {
@@ -370,6 +385,8 @@ void check(const word *file, const Table &before, const Table &after, const Tabl
         if (says(before) || says(after)) continue;
         (before.count(key) ? counts.lost : counts.invented)++;
     }
+    Table found = listed_blocks(file);
+    counts.other_listings += found != before && found != after;
     page_index_reply got = month_board_print(file, size, year, lines, sizeof lines);
     std::string text(reinterpret_cast<char *>(lines), got.value);
     counts.other_lines += got.code != PAGE_INDEX_DONE || (text != lines_of(before) && text != lines_of(after));
@@ -481,8 +498,9 @@ double measure(const Scene &scene, std::mt19937_64 &random) {
 void print_counts(const char *seed, const Counts &c) {
     std::printf("seed %s, kills %d, during a call %d, between its first and last store %d, mends that made a store %d\n",
                 seed, c.kills, c.in_call, c.inside, c.mends + c.finished);
-    std::printf("answered calls %ld, lookups %ld: pages lost %ld, invented %ld, not mendable %ld, stores out of order %ld\n",
-                c.answered, c.checked, c.lost, c.invented, c.unmendable, c.other_stores);
+    std::printf("answered calls %ld, lookups %ld: pages lost %ld, invented %ld, not mendable %ld, stores out of order %ld; "
+                "listings block by block that differ %ld\n",
+                c.answered, c.checked, c.lost, c.invented, c.unmendable, c.other_stores, c.other_listings);
     std::printf("of them by the board: answered calls %ld, kills between the first and last store %d; printed years that differ %ld\n",
                 c.by_board, c.inside_board, c.other_lines);
     std::printf("of them in merges: kills between the first and last store %d, finished by the mend %d, left undone %d; "

@@ -2,7 +2,8 @@
 // time; after every instruction the parent looks for words of the array that have changed. The
 // changes, in the order seen, must be the stores of the defined plan (by the twin, which the
 // comparison tests hold against the rules) that change a word, one for each instruction. The calls that
-// make no store, and merges that are refused, run at full speed on an array that cannot be written.
+// make no store, and merges and listings that are refused, run at full speed on an array that cannot be
+// written.
 #include "../../bindings/c/month_board.h"
 #include "../twin/twin.hpp"
 
@@ -330,6 +331,25 @@ bool readers_pass(word *shared) {
     return unwritable("board: set", shared, board, PAGE_INDEX_DONE, set) == "a store" && done;
 }
 
+// The listing of one block makes no store in the index, whether it is done or refused.
+bool block_listings_pass(word *shared) {
+    auto ends = [=](const char *name, const Words &before, word index, std::size_t room, std::uint32_t code) {
+        return unwritable(name, shared, before, code, [=](word *w) {
+            word records[128], next;
+            return page_index_list_block(w, size, index, records, room, &next);
+        });
+    };
+    Words damaged = split_twice();
+    damaged[4] = 3;
+    bool done = ends("list of the first block", split_twice(), 0, 128, PAGE_INDEX_DONE) == "done";
+    done &= ends("list of the last block", split_twice(), 2, 128, PAGE_INDEX_DONE) == "done";
+    done &= ends("list of a block, within it", split_twice(), 3, 128, PAGE_INDEX_NO_LEADER) == "refused";
+    done &= ends("list of a block, behind the last", split_twice(), 4, 128, PAGE_INDEX_NO_LEADER) == "refused";
+    done &= ends("list of a block into one word", split_twice(), 0, 1, PAGE_INDEX_SHORT_LIST) == "refused";
+    done &= ends("list of a block, directory damaged", damaged, 0, 128, PAGE_INDEX_UNMENDED) == "refused";
+    return done;
+}
+
 // A refused merge makes no store, not even of what is there already; one that is done is seen.
 bool merges_pass(word *shared) {
     auto ends = [=](const char *name, const Words &before, std::uint32_t code) {
@@ -351,5 +371,6 @@ int main() {
     for (const Case &c : merge_cases()) sound = passes(c, shared) && sound;
     for (const Case &c : board_cases()) sound = passes(c, shared) && sound;
     sound = readers_pass(shared) && sound;
+    sound = block_listings_pass(shared) && sound;
     return merges_pass(shared) && sound ? 0 : 1;
 }

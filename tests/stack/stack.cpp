@@ -145,6 +145,10 @@ int main() {
                     [](word *w, std::size_t n) { return page_index_merge(w, n, twin::worst_key, all); });
     sound &= passes("list of a full index", index, 0,
                     [&](word *w, std::size_t n) { return page_index_list(w, n, list.data(), list.size()); });
+    sound &= passes("list of one block", index, 0, [](word *w, std::size_t n) {
+        static word records[128], next;
+        return page_index_list_block(w, n, 0, records, 128, &next);
+    });
     sound &= board_passes();
     // The test must see a call that uses more.
     return !passes("get with 8,192 of its own", index, 0, greedy) && sound ? 0 : 1;

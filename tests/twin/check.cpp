@@ -1,5 +1,8 @@
 // The twin against the library: random runs of calls on small indexes and boards, every answer, every
-// word, every word of a list in its place, and every byte of a print.
+// word, every word of a list in its place, and every byte of a print. Then an index of the cabinet's size,
+// filled, listed whole and block by block.
+//
+//     check [PAGES]     with so many pages at most in that index
 #include "../../bindings/c/month_board.h"
 #include "twin.hpp"
 
@@ -7,6 +10,7 @@
 #include <cstdio>
 #include <map>
 #include <random>
+#include <string>
 #include <vector>
 
 namespace {
@@ -31,14 +35,61 @@ word held(Words &words, std::mt19937_64 &r) {
     return records ? list[r() % records * 2] : 0;
 }
 
+// What a listing of one block answers, and what it leaves in the list array and in the place for the next index.
+struct BlockListed {
+    std::uint32_t code, stores;
+    word records, next;
+    Words list;
+    bool operator==(const BlockListed &) const = default;
+};
+
+BlockListed block_by_library(const Words &words, word index, std::size_t room) {
+    Words list(room, unwritten);
+    word next = unwritten, none;
+    page_index_reply got =
+        page_index_list_block(words.data(), words.size(), index, room ? list.data() : &none, room, &next);
+    return {got.code, got.stores, got.value, next, list};
+}
+
+BlockListed block_by_twin(Words &words, word index, std::size_t room) {
+    Words list(room, unwritten);
+    word next = unwritten;
+    twin::Answer got = twin::Index<>(words.data(), words.size()).list_block(index, list.data(), room, next);
+    return {got.code, got.stores, got.value, next, list};
+}
+
+// A directory index: mostly one at which a wide block can begin, some behind the directory's end, and some that are
+// such an index where bits are lost.
+word directory_index(const Words &words, std::mt19937_64 &r) {
+    word g = words[0] % 256 % 13, size = word(1) << g, shift = r() % (g + 1), aligned = r() % size >> shift << shift;
+    const word others[] = {size, size + r() % 4, aligned | word(1) << (12 + r() % 52), ~word(0)};
+    return r() % 4 ? aligned : others[r() % 4];
+}
+
+// The length of a list array for the block at this index: what it needs, one word less, around 128, or any.
+std::size_t room_for_block(Words &words, word index, std::mt19937_64 &r) {
+    word needed = 2 * block_by_twin(words, index, 128).records;
+    const word rooms[] = {needed, needed ? needed - 1 : 0, 127 + r() % 3, r() % 200};
+    return rooms[r() % 4];
+}
+
 // The calls of the index.
 struct IndexCalls {
-    std::map<std::uint32_t, long> merges;  // how often each code was the answer
+    std::map<std::uint32_t, long> merges, blocks;  // how often each code was the answer
+    long followed = 0;                             // listed blocks that were not the last
 
     bool merge_agrees(Words &ours, Words &theirs, word key, std::uint32_t allowance) {
         twin::Answer answer = twin::Index<>(theirs.data(), theirs.size()).merge(key, allowance);
         merges[answer.code]++;
         return same(page_index_merge(ours.data(), ours.size(), key, allowance), answer) && ours == theirs;
+    }
+
+    bool list_block_agrees(const Words &ours, Words &theirs, std::mt19937_64 &r) {
+        word index = directory_index(theirs, r), room = room_for_block(theirs, index, r);
+        BlockListed due = block_by_twin(theirs, index, room);
+        blocks[due.code]++;
+        followed += due.code == twin::done && due.next != 0;
+        return block_by_library(ours, index, room) == due && ours == theirs;
     }
 
     // One call on both arrays; whether answers, arrays and whole list arrays agree, word for word. Two hundred
@@ -48,7 +99,7 @@ struct IndexCalls {
         word *w = ours.data();
         std::size_t n = ours.size();
         // Often one of a few values, so that a page gets the value that it has, or 0.
-        word key = r() % 3 ? sharing(r() % 90) : r() % 500, value = r() % 4 ? r() : r() % 3, kind = r() % 16;
+        word key = r() % 3 ? sharing(r() % 90) : r() % 500, value = r() % 4 ? r() : r() % 3, kind = r() % 17;
         std::uint32_t allowance = r() % 4 ? 0xffffffff : std::uint32_t(r() % 100);
         bool emptying = kind >= 8 && kind < 15 && step / 200 % 2;
         if (emptying) key = held(theirs, r);
@@ -63,6 +114,7 @@ struct IndexCalls {
             case 3: return same(page_index_get(w, n, key), index.get(key));
             case 6:
             case 7: return merge_agrees(ours, theirs, key, r() % 2 ? allowance : r() % 20);
+            case 16: return list_block_agrees(ours, theirs, r);
         }
         bool removes = emptying || kind == 4 || kind == 5;
         return (removes ? same(page_index_remove(w, n, key, allowance), index.remove(key, allowance))
@@ -75,6 +127,15 @@ struct IndexCalls {
         std::printf("merges: done %ld, cut off %ld, no buddy %ld, both live %ld\n", merges[twin::done],
                     merges[twin::cut_off], merges[twin::no_buddy], merges[twin::both_live]);
         return merges[twin::done] && merges[twin::cut_off] && merges[twin::no_buddy] && merges[twin::both_live];
+    }
+
+    // Whether a block was listed, the last and another, and refused with each code that the call has.
+    bool blocks_of_all_kinds() {
+        long last = blocks[twin::done] - followed;
+        std::printf("blocks listed: with another behind them %ld, the last %ld, short list %ld, no leader %ld\n", followed,
+                    last, blocks[twin::short_list], blocks[twin::no_leader]);
+        return followed && last && blocks[twin::no_store] && blocks[twin::broken] && blocks[twin::unmended] &&
+               blocks[twin::short_list] && blocks[twin::no_leader];
     }
 };
 
@@ -142,12 +203,45 @@ long calls_made(const char *name, int runs, std::uint64_t seed, Calls &call_agre
     return calls;
 }
 
+// The blocks from index 0 on, each with 128 words, joined; nothing where the library and the twin differ.
+Words joined_blocks(Words &words, long &blocks) {
+    Words joined;
+    word index = 0;
+    do {
+        BlockListed block = block_by_library(words, index, 128);
+        if (block.code != twin::done || block != block_by_twin(words, index, 128)) return {};
+        joined.insert(joined.end(), block.list.begin(), block.list.begin() + long(2 * block.records));
+        index = block.next;
+        blocks++;
+    } while (index != 0);
+    return joined;
+}
+
+// An index of the cabinet's size, filled with running numbers to the first refusal or to `most` pages: whether its
+// blocks, joined, are the full listing.
+bool cabinet_agrees(word most) {
+    constexpr word depth = 12, segments = 4032;
+    Words words((2u << depth) + 128 * segments);
+    page_index_format(words.data(), words.size(), depth, segments, 0xffffffff);
+    word pages = 0;
+    auto put = [&] { return page_index_put(words.data(), words.size(), pages + 1, 3 * pages, 0xffffffff); };
+    while (pages < most && put().code == PAGE_INDEX_DONE) pages++;
+    Words before = words, whole(2 * pages);
+    page_index_reply got = page_index_list(words.data(), words.size(), whole.data(), whole.size());
+    long blocks = 0;
+    bool agrees = joined_blocks(words, blocks) == whole && got.value == pages && words == before;
+    std::printf("an index of %zu words with %lu pages, listed in %ld blocks: joined %s\n", words.size(), pages, blocks,
+                agrees ? "the full listing" : "ANOTHER LISTING");
+    return agrees;
+}
+
 }  // namespace
 
-int main() {
+int main(int count, char **arguments) {
     IndexCalls calls;
     bool index = calls_made("index", 400, 20261115, calls) > 0;
-    bool merges = calls.merges_of_all_kinds();
+    bool merges = calls.merges_of_all_kinds(), blocks = calls.blocks_of_all_kinds();
     bool board = calls_made("board", 200, 20261116, board_agrees) > 0;
-    return index && merges && board ? 0 : 1;
+    bool cabinet = cabinet_agrees(count > 1 ? std::stoull(arguments[1]) : ~word(0));
+    return cabinet && index && merges && blocks && board ? 0 : 1;
 }

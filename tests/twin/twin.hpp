@@ -3,6 +3,7 @@
 #pragma once
 #include "keys.hpp"
 
+#include <bit>
 #include <cstddef>
 #include <cstdint>
 
@@ -25,6 +26,7 @@ enum Code : std::uint32_t {
     bad_number = 13,
     no_buddy = 14,
     both_live = 15,
+    no_leader = 16,
     absent = 255,
 };
 
@@ -148,15 +150,31 @@ class Index {
         return end(done);
     }
 
+    // Every live record, block by block from the left of the directory and by rising slot number within a
+    // segment, as document 02 orders a list (wish 3).
     Answer list(word *out, std::size_t room) const {
         if (!valid()) return refuse(no_store);
         if (std::uint32_t no = scan()) return refuse(no);
-        std::size_t records = walk([](word, word) {});
+        std::size_t count = std::size_t(1) << g, records = 0;
+        for (std::size_t i = 0; i < count; i += width(i)) records += std::popcount(live_in_block(i));
         if (room < 2 * records) return refuse(short_list);
-        walk([&out](word key, word value) {
-            *out++ = key;
-            *out++ = value;
-        });
+        for (std::size_t i = 0; i < count; i += width(i)) out = write_block(i, live_in_block(i), out);
+        return Answer{done, 0, records};
+    }
+
+    // The same of the one block that this index leads (document 02, wish 7). Where it is done, `next` becomes the next
+    // block's index, or 0 where this was the last.
+    Answer list_block(word index, word *out, std::size_t room, word &next) const {
+        if (!valid()) return refuse(no_store);
+        if (std::uint32_t no = scan()) return refuse(no);
+        std::size_t count = std::size_t(1) << g;
+        // In a consistent directory every entry tells where its block begins.
+        if (index >= count || index & (width(index) - 1)) return refuse(no_leader);
+        word live = live_in_block(index);
+        std::size_t records = std::popcount(live);
+        if (room < 2 * records) return refuse(short_list);
+        write_block(index, live, out);
+        next = (index + width(index)) & (count - 1);
         return Answer{done, 0, records};
     }
 
@@ -322,11 +340,14 @@ class Index {
         }
     }
 
-    // The slots of a segment whose keys have these first `l` directory bits, a bit for each.
+    // The slots of a segment whose keys have these first `l` directory bits, a bit for each. The bits are turned round
+    // once, to stand as in a folded key, and not those of every key.
     static word live_slots(const word *base, unsigned l, std::size_t bits) {
-        word live = 0;
-        for (unsigned j = 0; j < slots; j++)
-            live |= word(base[2 * j] != 0 && route(fold(base[2 * j]), l) == bits) << j;
+        word mask = (word(1) << l) - 1, wanted = route(bits << (20 - l), 16), live = 0;
+        for (unsigned j = 0; j < slots; j++) {
+            word key = base[2 * j];
+            live |= word(key != 0 && ((fold(key) >> 4 ^ wanted) & mask) == 0) << j;
+        }
         return live;
     }
 
@@ -348,24 +369,27 @@ class Index {
         }
     }
 
-    // Every live record, block by block from the left of the directory and by rising slot number within a
-    // segment, as document 02 orders a list (wish 3); answers how many there are.
-    template <class Visit>
-    std::size_t walk(Visit visit) const {
-        const word *entries = w + (std::size_t(1) << g);
-        std::size_t count = std::size_t(1) << g, records = 0;
-        for (std::size_t i = 0; i < count;) {
-            unsigned l = unsigned(entries[i] >> 32);
-            const word *base = segment(std::uint32_t(entries[i]));
-            for (unsigned j = 0; j < slots; j++) {
-                word key = base[2 * j];
-                if (key == 0 || route(fold(key), l) != i >> (g - l)) continue;
-                visit(key, base[2 * j + 1]);
-                records++;
-            }
-            i += std::size_t(1) << (g - l);
+    // The number of indices of the block that has this one.
+    std::size_t width(std::size_t i) const {
+        return std::size_t(1) << (g - unsigned(w[(std::size_t(1) << g) + i] >> 32));
+    }
+
+    // The slots with the live records of the block that index i leads, a bit for each.
+    word live_in_block(std::size_t i) const {
+        word e = w[(std::size_t(1) << g) + i];
+        unsigned l = unsigned(e >> 32);
+        return live_slots(segment(std::uint32_t(e)), l, i >> (g - l));
+    }
+
+    // Writes the records of these slots of that block, key then value, slots rising; answers where they end.
+    word *write_block(std::size_t i, word live, word *out) const {
+        const word *base = segment(std::uint32_t(w[(std::size_t(1) << g) + i]));
+        for (; live != 0; live &= live - 1) {
+            const word *record = base + 2 * std::countr_zero(live);
+            *out++ = record[0];
+            *out++ = record[1];
         }
-        return records;
+        return out;
     }
 };
 

@@ -4,7 +4,8 @@
 //! Every array and every argument gets an answer; no call touches a word outside the array, allocates
 //! or keeps state. A call makes its stores one word at a time in a fixed order, so that a power cut
 //! leaves the array as an allowance of so many stores would; after one, [`mend`] until it is done.
-//! [`merge`] joins blocks that hold little, so that later splits can take a segment again.
+//! [`merge`] joins blocks that hold little, so that later splits can take a segment again. [`list`] lists the
+//! whole index, [`blocks()`] and [`list_block`] one block after the other, with 128 words.
 //! [`board`] keeps the pages of jobs, by year, month and number, in an array of its own.
 //!
 //! Of one array and one call, an allowance larger by one changes at most one word of what is left: the word
@@ -19,7 +20,7 @@
 //! formatted, and every record put again. [`format`] empties a store: what was not listed is lost.
 //!
 //! ```
-//! use page_index::{format, get, list, mend, merge, put, remove, Refusal};
+//! use page_index::{blocks, format, get, list, mend, merge, put, remove, Refusal};
 //!
 //! const ALL: u32 = u32::MAX;
 //! let mut words = [0u64; 264];
@@ -43,6 +44,8 @@
 //! for i in 0..17 {
 //!     put(&mut words, 7 + 16 * i, i, ALL).unwrap();
 //! }
+//! let counts: Vec<usize> = blocks(&words).map(|block| block.unwrap().records().count()).collect();
+//! assert_eq!(counts, [9, 8]);
 //! assert_eq!(merge(&mut words, 7, ALL).unwrap_err().refusal, Refusal::BothLive);
 //! assert_eq!(remove(&mut words, 263, ALL), Ok(Some(1)));
 //! assert_eq!(merge(&mut words, 7, ALL), Ok(18));
@@ -51,8 +54,10 @@
 //! ```
 #![warn(missing_docs)]
 
+mod blocks;
 pub mod board;
 
+pub use blocks::{blocks, Block, Blocks, BLOCK_WORDS};
 use std::error::Error;
 use std::fmt;
 
@@ -78,8 +83,8 @@ pub enum Refusal {
     BadShape = 8,
     /// The array has too few words for this shape.
     TooShort = 9,
-    /// The list array has fewer than two words for each record, or the board's buffer is shorter than
-    /// the lines.
+    /// The list array has fewer than two words for each record, of all or of the one block, or the board's
+    /// buffer is shorter than the lines.
     ShortList = 10,
     /// The year is not 1 to 9999.
     BadYear = 11,
@@ -91,6 +96,8 @@ pub enum Refusal {
     NoBuddy = 14,
     /// Some slot has a page in both segments.
     BothLive = 15,
+    /// No block begins at this index of the directory.
+    NoLeader = 16,
 }
 
 /// A refusal, and the number of stores that the call made before it.
@@ -129,6 +136,14 @@ extern "C" {
     fn page_index_mend(words: *mut u64, len: usize, allowance: u32) -> Reply;
     fn page_index_merge(words: *mut u64, len: usize, key: u64, allowance: u32) -> Reply;
     fn page_index_list(words: *const u64, len: usize, list: *mut u64, list_len: usize) -> Reply;
+    fn page_index_list_block(
+        words: *const u64,
+        len: usize,
+        index: u64,
+        list: *mut u64,
+        list_len: usize,
+        next: *mut u64,
+    ) -> Reply;
 }
 
 fn refusal(code: u32) -> Refusal {
@@ -148,6 +163,7 @@ fn refusal(code: u32) -> Refusal {
         13 => Refusal::BadNumber,
         14 => Refusal::NoBuddy,
         15 => Refusal::BothLive,
+        16 => Refusal::NoLeader,
         _ => unreachable!("the index answers no code {code}"),
     }
 }
@@ -225,4 +241,33 @@ pub fn list(words: &[u64], list: &mut [u64]) -> Result<usize, Refused> {
     // SAFETY: as in `format`; the borrow checker keeps the two slices apart.
     let reply = unsafe { page_index_list(words.as_ptr(), words.len(), list.as_mut_ptr(), list.len()) };
     answered(reply).map(|done| done.map_or(0, |reply| reply.value as usize))
+}
+
+/// What a listing of one block answers.
+#[derive(Clone, Copy, Debug, PartialEq, Eq, Hash)]
+pub struct ListedBlock {
+    /// The number of the block's records.
+    pub records: usize,
+    /// The index at which the next block begins, or `None` where this was the last.
+    pub next: Option<u64>,
+}
+
+/// Lists one block, the one that begins at this index of the directory: writes its records to the list array
+/// as [`list`] does, and answers how many there are and where the next block begins. A list array of
+/// [`BLOCK_WORDS`] words is always enough. From index 0 on, to the last, the records are those of [`list`], in
+/// its order, if nobody changes the index in between; [`blocks()`] does that.
+///
+/// It reads the whole directory. Behind the refusals of [`list`] for a damaged index comes
+/// [`Refusal::NoLeader`] where no block begins at the index, be it within a block or behind the directory's
+/// end, and then [`Refusal::ShortList`], for the records of the one block. A refusal leaves the list array as
+/// it was.
+pub fn list_block(words: &[u64], index: u64, list: &mut [u64]) -> Result<ListedBlock, Refused> {
+    let mut next = 0;
+    // SAFETY: as in `list`; `next` is a word of its own.
+    let reply = unsafe {
+        page_index_list_block(words.as_ptr(), words.len(), index, list.as_mut_ptr(), list.len(), &mut next)
+    };
+    let records = answered(reply)?.map_or(0, |reply| reply.value as usize);
+    // The library names 0 behind the last block.
+    Ok(ListedBlock { records, next: (next != 0).then_some(next) })
 }

@@ -14,7 +14,7 @@ pub enum BoardCall {
 }
 
 fn refused(code: u32) -> Answer {
-    Answer { code, stores: 0, value: 0 }
+    Answer::new(code, 0, 0)
 }
 
 /// The job's key, or the first of the refusals 11, 12 and 13 that it earns.
@@ -60,7 +60,7 @@ pub fn print(lines: &Result<String, u32>, buffer: &mut [u8]) -> Answer {
         Ok(text) if text.len() > buffer.len() => refused(10),
         Ok(text) => {
             buffer[..text.len()].copy_from_slice(text.as_bytes());
-            Answer { code: model::DONE, stores: 0, value: text.len() as u64 }
+            Answer::new(model::DONE, 0, text.len() as u64)
         }
     }
 }

@@ -1,6 +1,7 @@
 //! Compares the compiled index with the model, call by call and word by word: random calls on arrays
 //! that runs of calls leave, on such arrays with damage, and on arrays of random words. Of some calls it is tried how
-//! much one number can change. Then the month board.
+//! much one number can change; some arrays are listed block by block, and the answers joined. Then the month board.
+mod blocks;
 mod board;
 mod board_model;
 mod model;
@@ -44,6 +45,7 @@ struct Counts {
     /// Merges of two blocks that name one segment, with the tests passed.
     one_segment: u64,
     one_number: one_number::Counts,
+    blocks: blocks::Counts,
 }
 
 impl Counts {
@@ -81,19 +83,21 @@ fn name(call: Call) -> &'static str {
         Call::Mend(..) => "mend",
         Call::Merge(..) => "merge",
         Call::List => "list",
+        Call::ListBlock(..) => "list block",
     }
 }
 
 fn answer(result: Result<(u32, u32, u64), Refused>) -> Answer {
     match result {
-        Ok((code, stores, value)) => Answer { code, stores, value },
-        Err(no) => Answer { code: no.refusal as u32, stores: no.stores, value: 0 },
+        Ok((code, stores, value)) => Answer::new(code, stores, value),
+        Err(no) => Answer::new(no.refusal as u32, no.stores, 0),
     }
 }
 
 /// The call made by the compiled index.
 fn made(words: &mut [u64], list: &mut [u64], call: Call) -> Answer {
-    answer(match call {
+    let mut next = None;
+    let answered = answer(match call {
         Call::Format(d, s, n) => page_index::format(words, d, s, n).map(|stores| (DONE, stores, 0)),
         Call::Get(key) => page_index::get(words, key).map(|v| v.map_or((ABSENT, 0, 0), |v| (DONE, 0, v))),
         Call::Put(key, value, n) => page_index::put(words, key, value, n).map(|stores| (DONE, stores, 0)),
@@ -101,14 +105,19 @@ fn made(words: &mut [u64], list: &mut [u64], call: Call) -> Answer {
         Call::Mend(n) => page_index::mend(words, n).map(|stores| (DONE, stores, 0)),
         Call::Merge(key, n) => page_index::merge(words, key, n).map(|stores| (DONE, stores, 0)),
         Call::List => page_index::list(words, list).map(|count| (DONE, 0, count as u64)),
-    })
+        Call::ListBlock(index) => page_index::list_block(words, index, list).map(|block| {
+            next = block.next;
+            (DONE, 0, block.records as u64)
+        }),
+    });
+    Answer { next, ..answered }
 }
 
 /// The word that the list arrays hold where nothing was written.
 const UNWRITTEN: u64 = 0x1111_2222_3333_4444;
 
 /// Makes one call on both arrays, with list arrays of `room` words, and compares the answers and every word
-/// of the arrays and of the list arrays. A list has one outcome, so its order counts (document 02, wish 3).
+/// of the arrays and of the list arrays. A listing has one outcome, so its order counts (document 02, wish 3).
 fn compare(ours: &mut [u64], theirs: &mut [u64], call: Call, room: usize, counts: &mut Counts) -> Answer {
     let mut list = vec![UNWRITTEN; room];
     let mut due_list = list.clone();
@@ -174,8 +183,8 @@ fn known(r: &mut Random, used: &[u64]) -> u64 {
     used[r.below(used.len() as u64) as usize]
 }
 
-fn call(r: &mut Random, used: &mut Vec<u64>) -> Call {
-    match r.below(42) {
+fn call(r: &mut Random, words: &[u64], used: &mut Vec<u64>) -> Call {
+    match r.below(44) {
         0 if r.chance(4) => Call::Format(r.below(15), r.below(20), allowance(r)),
         0..=8 => Call::Get(known(r, used)),
         9..=26 => {
@@ -186,14 +195,15 @@ fn call(r: &mut Random, used: &mut Vec<u64>) -> Call {
         27..=32 => Call::Remove(known(r, used), allowance(r)),
         33..=37 => Call::Mend(allowance(r)),
         38..=39 => Call::List,
+        40..=41 => Call::ListBlock(blocks::index(r, words)),
         _ => Call::Merge(known(r, used), allowance(r)),
     }
 }
 
 /// A call where the index is to become full: often a put of a key of this bucket.
-fn filling_call(r: &mut Random, bucket: u64, used: &mut Vec<u64>) -> Call {
+fn filling_call(r: &mut Random, words: &[u64], bucket: u64, used: &mut Vec<u64>) -> Call {
     if r.chance(2) {
-        return call(r, used);
+        return call(r, words, used);
     }
     used.push(unfolded(bucket + (16 << r.below(4)) * r.below(60)));
     Call::Put(used[used.len() - 1], value(r), allowance(r))
@@ -201,11 +211,19 @@ fn filling_call(r: &mut Random, bucket: u64, used: &mut Vec<u64>) -> Call {
 
 /// A call where the index is to become empty: mostly a merge, or a remove of the key that was put last. So blocks can
 /// be merged while they still have pages.
-fn emptying_call(r: &mut Random, used: &mut Vec<u64>) -> Call {
+fn emptying_call(r: &mut Random, words: &[u64], used: &mut Vec<u64>) -> Call {
     match r.below(8) {
         0..=4 => Call::Remove(used.pop().unwrap_or_else(|| key(r)), allowance(r)),
         5..=6 => Call::Merge(known(r, used), allowance(r)),
-        _ => call(r, used),
+        _ => call(r, words, used),
+    }
+}
+
+/// The length of the call's list array: of a listing of one block often around what it needs, else the one given.
+fn room_for(r: &mut Random, words: &[u64], call: Call, other: usize) -> usize {
+    match call {
+        Call::ListBlock(index) => blocks::room(r, words, index, other),
+        _ => other,
     }
 }
 
@@ -253,10 +271,15 @@ fn confuse(words: &mut [u64], r: &mut Random) -> bool {
 /// Makes a call on both arrays, damaged or not, and counts what it was made on.
 fn step(ours: &mut [u64], theirs: &mut [u64], call: Call, room: usize, damaged: bool, counts: &mut Counts) -> Answer {
     counts.damaged += damaged as u64;
-    let Call::Merge(key, _) = call else { return compare(ours, theirs, call, room, counts) };
-    counts.one_segment += model::halves(ours, key).is_ok_and(|[a, b]| a.segment == b.segment) as u64;
+    if let Call::Merge(key, _) = call {
+        counts.one_segment += model::halves(ours, key).is_ok_and(|[a, b]| a.segment == b.segment) as u64;
+    }
     let got = compare(ours, theirs, call, room, counts);
-    *counts.merges.entry((damaged, got.code)).or_default() += 1;
+    match call {
+        Call::Merge(..) => *counts.merges.entry((damaged, got.code)).or_default() += 1,
+        Call::ListBlock(index) => blocks::count(ours, index, room, damaged, got, &mut counts.blocks),
+        _ => {}
+    }
     got
 }
 
@@ -267,6 +290,7 @@ fn beside(words: &[u64], call: Call, room: usize, r: &mut Random, counts: &mut C
         damage(&mut ours, r);
     }
     let mut theirs = ours.clone();
+    let room = room_for(r, &ours, call, room);
     step(&mut ours, &mut theirs, call, room, true, counts);
 }
 
@@ -294,12 +318,14 @@ fn run(r: &mut Random, steps: u64, damaged: bool, counts: &mut Counts) {
         emptying = if emptying { !used.is_empty() } else { used.len() > full };
         let room = if r.chance(3) { r.below(40) as usize } else { 2 * 64 * 24 };
         let call = match emptying {
-            _ if damaged => call(r, &mut used),
-            true => emptying_call(r, &mut used),
-            false => filling_call(r, bucket, &mut used),
+            _ if damaged => call(r, &ours, &mut used),
+            true => emptying_call(r, &ours, &mut used),
+            false => filling_call(r, &ours, bucket, &mut used),
         };
+        let room = room_for(r, &ours, call, room);
         if r.chance(8) {
             one_number::compare(&ours, call, value(r), &mut counts.one_number);
+            blocks::compare_joined(&ours, &mut counts.blocks);
         }
         if !damaged && r.chance(4) {
             beside(&ours, call, room, r, counts);
@@ -331,9 +357,24 @@ fn random_array(r: &mut Random, counts: &mut Counts) {
     let mut ours = random_words(r);
     let mut theirs = ours.clone();
     for _ in 0..3 {
-        let room = r.below(4000) as usize;
-        let call = call(r, &mut Vec::new());
+        let call = call(r, &ours, &mut Vec::new());
+        let other = r.below(4000) as usize;
+        let room = room_for(r, &ours, call, other);
         one_number::compare(&ours, call, value(r), &mut counts.one_number);
+        blocks::compare_joined(&ours, &mut counts.blocks);
+        step(&mut ours, &mut theirs, call, room, true, counts);
+    }
+}
+
+/// Listings of an array whose blocks were made by hand.
+fn listings_by_hand(r: &mut Random, counts: &mut Counts) {
+    let mut ours = blocks::by_hand(r);
+    let mut theirs = ours.clone();
+    blocks::compare_joined(&ours, &mut counts.blocks);
+    for _ in 0..4 {
+        let call = if r.chance(4) { Call::List } else { Call::ListBlock(blocks::index(r, &ours)) };
+        let other = r.below(ours.len() as u64) as usize;
+        let room = room_for(r, &ours, call, other);
         step(&mut ours, &mut theirs, call, room, true, counts);
     }
 }
@@ -353,6 +394,9 @@ fn main() {
         for _ in 0..30 * rounds {
             random_array(r, &mut counts);
         }
+        for _ in 0..5 * rounds {
+            listings_by_hand(r, &mut counts);
+        }
     }
     println!("calls {}", counts.said());
     for ((call, code), count) in &counts.codes {
@@ -360,7 +404,8 @@ fn main() {
     }
     assert!(counts.old > 0, "no word 0 had the old mark");
     let merged = counts.report_merges();
-    if !one_number::report(&counts.one_number) || !merged {
+    let listed = blocks::report(&counts.blocks);
+    if !one_number::report(&counts.one_number) || !merged || !listed {
         std::process::exit(1);
     }
     let mut counts = board::BoardCounts::default();

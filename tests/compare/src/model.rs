@@ -1,5 +1,6 @@
-//! The seven calls written from documents 01 and 02 alone. A call is first a list of stores and a reply, both
+//! The eight calls written from documents 01 and 02 alone. A call is first a list of stores and a reply, both
 //! computed on a copy of the array; then as many of the stores as are allowed are made.
+use std::ops::Range;
 
 pub const DONE: u32 = 0;
 pub const CUT_OFF: u32 = 7;
@@ -17,6 +18,7 @@ pub enum Call {
     Mend(u32),
     Merge(u64, u32),
     List,
+    ListBlock(u64),
 }
 
 /// What a call answers.
@@ -25,11 +27,17 @@ pub struct Answer {
     pub code: u32,
     pub stores: u32,
     pub value: u64,
+    /// Where one block was listed: the next block's index, or none if it was the last.
+    pub next: Option<u64>,
 }
 
 impl Answer {
+    pub fn new(code: u32, stores: u32, value: u64) -> Answer {
+        Answer { code, stores, value, next: None }
+    }
+
     fn plain(code: u32) -> Answer {
-        Answer { code, stores: 0, value: 0 }
+        Answer::new(code, 0, 0)
     }
 }
 
@@ -103,7 +111,7 @@ fn entry(words: &[u64], shape: Shape, index: usize) -> Entry {
 }
 
 /// The walk: each block as its range of indices; or refusal 3; or 4 where an entry differs from its leader.
-fn walk(words: &[u64], shape: Shape) -> Result<Vec<std::ops::Range<usize>>, u32> {
+fn walk(words: &[u64], shape: Shape) -> Result<Vec<Range<usize>>, u32> {
     let size = 1usize << shape.g;
     let (mut blocks, mut at) = (Vec::new(), 0);
     while at < size {
@@ -333,44 +341,59 @@ fn merge(draft: &mut Draft, key: u64) -> u32 {
     DONE
 }
 
-/// The records of the walk's segments, key then value: block by block from the left of the directory, and by
-/// rising slot number within a segment (document 02, wish 3).
-fn records(words: &[u64]) -> Result<Vec<u64>, u32> {
-    let shape = shape(words).ok_or(1u32)?;
-    let mut found = Vec::new();
-    for block in walk(words, shape)? {
-        let e = entry(words, shape, block.start);
-        let bits = bits_of(block.start, shape.g)[..e.depth as usize].to_vec();
-        for slot in 0..64 {
-            let at = slot_address(shape, e.segment, slot);
-            if is_live(words[at], &bits) {
-                found.extend([words[at], words[at + 1]]);
-            }
-        }
-    }
-    Ok(found)
+/// The live records of one block, key then value, by rising slot number.
+fn block_records(words: &[u64], shape: Shape, block: &Range<usize>) -> Vec<u64> {
+    let e = entry(words, shape, block.start);
+    let bits = bits_of(block.start, shape.g)[..e.depth as usize].to_vec();
+    let slots = (0..64).map(|slot| slot_address(shape, e.segment, slot));
+    slots.filter(|&at| is_live(words[at], &bits)).flat_map(|at| [words[at], words[at + 1]]).collect()
 }
 
-/// Makes a call on the array; a done list writes its records to `list`, and words behind them stay.
+/// The records of the walk's segments: block by block from the left of the directory (document 02, wish 3).
+fn records(words: &[u64]) -> Result<Vec<u64>, u32> {
+    let shape = shape(words).ok_or(1u32)?;
+    Ok(walk(words, shape)?.iter().flat_map(|block| block_records(words, shape, block)).collect())
+}
+
+/// The indices at which the walk has a leader, or its refusal.
+pub fn leaders(words: &[u64]) -> Result<Vec<usize>, u32> {
+    let shape = shape(words).ok_or(1u32)?;
+    Ok(walk(words, shape)?.iter().map(|block| block.start).collect())
+}
+
+/// The records of the one block led at this index, and the index of the block that the walk has next, if it goes on; or
+/// the refusal (document 02, wish 7).
+pub fn block_led(words: &[u64], index: u64) -> Result<(Vec<u64>, Option<u64>), u32> {
+    let shape = shape(words).ok_or(1u32)?;
+    let blocks = walk(words, shape)?;
+    let mut from = blocks.iter().skip_while(|block| block.start as u64 != index);
+    let led = from.next().ok_or(16u32)?;
+    Ok((block_records(words, shape, led), from.next().map(|block| block.start as u64)))
+}
+
+/// What a listing of these records answers. Where it is done it writes them to `list`, and words behind them stay.
+fn listed(list: &mut [u64], found: Vec<u64>, next: Option<u64>) -> Answer {
+    if list.len() < found.len() {
+        return Answer::plain(10);
+    }
+    list[..found.len()].copy_from_slice(&found);
+    Answer { next, ..Answer::new(DONE, 0, found.len() as u64 / 2) }
+}
+
+/// Makes a call on the array; a done listing writes its records to `list`.
 pub fn perform(words: &mut [u64], list: &mut [u64], call: Call) -> Answer {
     let mut draft = Draft { words: words.to_vec(), due: Vec::new() };
     let (code, allowance) = match call {
         Call::Get(key) => {
             return match get(words, key) {
-                Ok(Some(value)) => Answer { code: DONE, stores: 0, value },
+                Ok(Some(value)) => Answer::new(DONE, 0, value),
                 Ok(None) => Answer::plain(ABSENT),
                 Err(code) => Answer::plain(code),
             }
         }
-        Call::List => {
-            return match records(words) {
-                Err(code) => Answer::plain(code),
-                Ok(found) if list.len() < found.len() => Answer::plain(10),
-                Ok(found) => {
-                    list[..found.len()].copy_from_slice(&found);
-                    Answer { code: DONE, stores: 0, value: found.len() as u64 / 2 }
-                }
-            }
+        Call::List => return records(words).map_or_else(Answer::plain, |found| listed(list, found, None)),
+        Call::ListBlock(index) => {
+            return block_led(words, index).map_or_else(Answer::plain, |(found, next)| listed(list, found, next))
         }
         Call::Format(d, s, n) => (format(&mut draft, d, s), n),
         Call::Put(key, value, n) => (put(&mut draft, key, value), n),
@@ -383,5 +406,5 @@ pub fn perform(words: &mut [u64], list: &mut [u64], call: Call) -> Answer {
         words[at] = word;
     }
     let code = if made < draft.due.len() { CUT_OFF } else { code };
-    Answer { code, stores: made as u32, value: 0 }
+    Answer::new(code, made as u32, 0)
 }

@@ -35,7 +35,7 @@ fn one_more(call: Call) -> Option<Call> {
         Call::Remove(key, n) => more(n).map(|n| Call::Remove(key, n)),
         Call::Mend(n) => more(n).map(Call::Mend),
         Call::Merge(key, n) => more(n).map(|n| Call::Merge(key, n)),
-        Call::Get(..) | Call::List => None,
+        Call::Get(..) | Call::List | Call::ListBlock(..) => None,
     }
 }
 

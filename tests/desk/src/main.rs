@@ -5,7 +5,7 @@
 //!
 //! The outputs in crates/desk_test/data were written by it and never by the program under test.
 //! SCRIPTS.md says what each script there is for.
-// The desk program makes no merge.
+// The desk program makes no merge and no listing of one block.
 #[allow(dead_code)]
 #[path = "../../compare/src/model.rs"]
 mod model;
@@ -54,7 +54,7 @@ fn answer_line(call: Call, answer: Answer) -> String {
         Call::Remove(..) => ("R", false),
         Call::Mend(..) => ("M", false),
         Call::List => ("L", true),
-        Call::Merge(..) => unreachable!("the desk program has no letter for a merge"),
+        Call::Merge(..) | Call::ListBlock(..) => unreachable!("the desk program has no letter for {call:?}"),
     };
     let reply = if answer.code == ABSENT { "-".to_string() } else { answer.code.to_string() };
     let value = if with_value && answer.code == DONE { format!("\t{}", answer.value) } else { String::new() };
