@@ -37,7 +37,7 @@ answer-tells : {may : ℕ → Bool} (o : Outcome Said) (s : Sayable may (o .repl
 answer-tells o s r k = tells-same k (sym (s .says)) refl
 
 module _ (a l : List ℕ) (r : PageIndexReply) where
-  -- What `page_index_format`, `_get`, `_put`, `_remove` and `_mend` promise, with any list array.
+  -- What `page_index_format`, `_get`, `_put`, `_remove`, `_merge` and `_mend` promise, with any list array.
   pub told-performed : (call : Call) → lists call ≡ false → (a′ : List ℕ) → Told (outcomeOf a call) r a′ → ToldPerformed call a l r a′ l
   told-performed call q a′ t =
       let s = step-sayable a [] call in

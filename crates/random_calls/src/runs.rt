@@ -25,10 +25,8 @@ pub const ENTRY_WORDS: usize = 3;
 // The words of a list array that is always enough for one block.
 pub const PART_WORDS: usize = 128;
 
-// The weight of the upper half of a word, and the largest number.
+// The weight of the upper half of a word.
 const UPPER_HALF: u64 = 4294967296;
-
-const LARGEST: u64 = 18446744073709551615;
 
 // The folded key of a key of a run. By the seed they are running numbers; of a few buckets, with any
 // route bits; of one bucket and few routes, so that segments get deep; or half of one route and half
@@ -109,7 +107,7 @@ fn index_beyond(block: Block, roll: u64) -> u64 {
         0 => end,
         1 => end + roll / 4 % 256,
         2 => UPPER_HALF + block.start as u64,
-        _ => LARGEST,
+        _ => u64::MAX,
     }
 }
 

@@ -48,7 +48,7 @@ damage-early n d =
     ⊎-elim (λ (e : eqb n 3 ≡ true). rw (eqb-true n 3 e)) (λ (e : eqb n 4 ≡ true). rw (eqb-true n 4 e)) (or-cases (eqb n 3) (eqb n 4) h))
     (or-cases (eqb n 1) (eqb n 3 || eqb n 4) d)
 
--- What both listings say, on an array with one front.
+-- What both listings say where a test in front refuses.
 module _ (a : List ℕ) where
   list-stops : (r : Refusal) → ((later : Option Refusal) → listingTests a later ≡ some r) → (room : ℕ) → (list a room) .reply ≡ refuse r
   unfolding list listTests behindTests

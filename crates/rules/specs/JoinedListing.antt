@@ -71,6 +71,7 @@ pub record Gathered (a l : List ℕ) : Type 0 where
   pub gathered : gather a (2 ^ depth a) 0 l ≡ some parts
   pub full : FullListing a parts
 
+-- So it is on every array that list does not refuse by 1, 3 or 4.
 abbrev pub JoinedListing : Type 0
 JoinedListing =
     (a l m : List ℕ) → 128 ≤ length l → saysDamage ((step a m ListCall) .outcome .reply) ≡ false → Gathered a l

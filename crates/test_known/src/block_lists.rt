@@ -28,8 +28,6 @@ use model_array::words::word_at;
 // The words of a list array that is always enough for one block.
 const ENOUGH: usize = 128;
 
-const LARGEST: u64 = 18446744073709551615;
-
 // The index 0 with a bit set above the lower half of a word.
 const UPPER_ZERO: u64 = 4294967296;
 
@@ -127,15 +125,15 @@ fn beyond_directory(arrays: &mut Arrays) {
     begin_deep(arrays);
     refuse_block(arrays, 4, ENOUGH, NO_LEADER);
     refuse_block(arrays, UPPER_ZERO, ENOUGH, NO_LEADER);
-    refuse_block(arrays, LARGEST, ENOUGH, NO_LEADER);
-    refuse_block(arrays, LARGEST, 0, NO_LEADER);
+    refuse_block(arrays, u64::MAX, ENOUGH, NO_LEADER);
+    refuse_block(arrays, u64::MAX, 0, NO_LEADER);
 }
 
 // No store, at an index that leads and at one that does not: 1 comes before 16.
 fn without_store(arrays: &mut Arrays) {
     begin(arrays, WORDS_4);
     refuse_block(arrays, 0, ENOUGH, NO_STORE);
-    refuse_block(arrays, LARGEST, 0, NO_STORE);
+    refuse_block(arrays, u64::MAX, 0, NO_STORE);
 }
 
 // A leader that is not sound: entry 3 names segment 4. 3 comes before 16, and for every index.
@@ -145,7 +143,7 @@ fn broken_directory(arrays: &mut Arrays) {
     arrays[MODEL] = arrays[INDEX];
     refuse_block(arrays, 0, ENOUGH, BROKEN);
     refuse_block(arrays, 3, ENOUGH, BROKEN);
-    refuse_block(arrays, LARGEST, 0, BROKEN);
+    refuse_block(arrays, u64::MAX, 0, BROKEN);
 }
 
 // State g, which waits for a mend: 4 comes before 16. Once mended it has one block of two indices.
@@ -153,7 +151,7 @@ fn unmended_directory(arrays: &mut Arrays) {
     put_state(arrays, 4, 16, put_263(76), CUT_OFF, 76);
     refuse_block(arrays, 0, ENOUGH, UNMENDED);
     refuse_block(arrays, 1, ENOUGH, UNMENDED);
-    refuse_block(arrays, LARGEST, 0, UNMENDED);
+    refuse_block(arrays, u64::MAX, 0, UNMENDED);
     expect_call(arrays, Call::Mend(ALLOWANCE), DONE, 1);
     expect_block(arrays, 0, 32, 0);
     refuse_block(arrays, 1, 0, NO_LEADER);
