@@ -178,14 +178,20 @@ fn take_steps(arrays: &mut Arrays, seed: u64) {
     }
 }
 
-// Takes a key away, and merges its block with the buddy if that can be.
+// One key of so many is followed by a listing in parts.
+const KEYS_BETWEEN_LISTS: u32 = 8;
+
+// Takes a key away, and merges its block with the buddy if that can be. Behind some of the keys the index is
+// listed in parts.
 fn clear_key(arrays: &mut Arrays, number: u32) {
     let entry = ENTRY_WORDS * (number as usize);
     let key = word_at(&arrays[TABLE], entry);
     call_step(arrays, entry, Call::Remove(key, ALL_STORES));
     whole_step(arrays, entry, Call::Merge(key, ALL_STORES));
     look_up_all(arrays);
-    compare_parts(arrays);
+    if number % KEYS_BETWEEN_LISTS == 0 {
+        compare_parts(arrays);
+    }
 }
 
 // Takes all keys away, one by one, with the merges that come to be possible.
