@@ -1,78 +1,119 @@
--- The search for a free segment: entry by entry, and number by number.
+-- The search for a free segment: what is noted entry by entry, and the answer from the set.
 -- Assumes nothing.
 use mathlib.Core.Path.{_≡_, refl, sym, ap, _∙_}
-use mathlib.Core.Bool.{Bool, true, false, not}
+use mathlib.Core.Bool.{Bool, true, false, not, _&&_, _||_}
 use mathlib.Core.List.{List, [], _∷_}
+use mathlib.Core.Logic.{⊎-elim}
 use mathlib.Core.Option.{none, some}
-use Prim.Native.Nat.{ℕ, zero, suc, _+_, _-_, _^_, _<_}
-use native.Mathlib.Nat.{add-zero, add-suc}
+use Prim.Native.Nat.{ℕ, zero, suc, _+_, _^_, _≤_, _<_}
+use native.Mathlib.Nat.{le-refl, le-step, le-of-suc-le-suc, not-suc-le-zero, eq-or-lt-of-le}
 use native.Mathlib.Numerals.{add-one}
 use native.Mathlib.Omega.{arith}
-use borrow.Author.Tests.{eq-eqb, ne-eqb}
-use lib.Dec.{eqb}
+use borrow.Author.Tests.{lt-ltb, le-ltb, ltb-true, eqb-true, ne-eqb}
+use lib.Dec.{eqb, ltb}
 use Rattle.stores.specs.Lists.{each, firstIn, anyBelow}
-use Rattle.stores.proofs.Lists.{each-suc, first-next, first-here, first-append, first-append-some, any-true}
+use Rattle.stores.proofs.Lists.{first-same, first-next, first-here, first-append, first-append-some}
+use Rattle.stores.proofs.Tests.{cases}
 use Rattle.rules.specs.Layout.{depth, segments, entryAt, segmentOf}
 use Rattle.rules.specs.Slots.{named, freeSegment}
+use Rattle.rules.proofs.Put.{range-lt}
+use Rattle.directory.specs.BitSets.{holds, Empty, Inserted, SmallestMissing}
+use Rattle.directory.specs.Frees.{freeIn, NotedEntry, HoldsNamed}
 
--- ---- Whether a segment is named
+-- ---- The pass
 
 -- Entry i names segment s.
-abbrev pub names : List ℕ → (s i : ℕ) → Bool
+abbrev names : List ℕ → (s i : ℕ) → Bool
 names a s i = eqb (segmentOf (entryAt a (depth a) i)) s
 
-module _ (a : List ℕ) (s : ℕ) where
-  pub named-at : (i : ℕ) → i < 2 ^ depth a → segmentOf (entryAt a (depth a) i) ≡ s → true ≡ named a s
-  unfolding named
-  named-at i h e = sym (any-true (names a s) (2 ^ depth a) i h (eq-eqb (segmentOf (entryAt a (depth a) i)) s e))
+-- The set holds the numbers below S that one of the first i entries names, and no others.
+abbrev pub NotedBelow : (a noted : List ℕ) (i : ℕ) → Type 0
+NotedBelow a noted i = (s : ℕ) → holds noted s ≡ (ltb s (segments a) && anyBelow (names a s) i)
 
-  pub passed-none : anyBelow (names a s) 0 ≡ false
-  unfolding anyBelow
-  passed-none = refl
+and-none : (b : Bool) → b && false ≡ false
+and-none true = refl
+and-none false = refl
 
-  pub passed-entry : (i : ℕ) → anyBelow (names a s) i ≡ false → (segmentOf (entryAt a (depth a) i) ≡ s → ⊥)
-      → anyBelow (names a s) (i + 1) ≡ false
-  unfolding anyBelow
-  passed-entry i e h = rw (add-one, e, ne-eqb (segmentOf (entryAt a (depth a) i)) s h)
+one-more : (b x y : Bool) → (b && y || b && x) ≡ b && (x || y)
+one-more true true true = refl
+one-more true true false = refl
+one-more true false true = refl
+one-more true false false = refl
+one-more false x y = refl
 
-  pub passed-all : (i : ℕ) → i ≡ 2 ^ depth a → anyBelow (names a s) i ≡ false → false ≡ named a s
-  unfolding named
-  passed-all i q e = sym (rw q at e)
+-- One entry, which names n: below S, or not.
+module _ (e S n : ℕ) (named-by : n ≡ segmentOf e) where
+  pub noted-below : (before after : List ℕ) → n < S → Inserted n before after → NotedEntry e S before after
+  noted-below before after h i s =
+      let same : eqb n s ≡ (ltb s S && eqb (segmentOf e) s) =
+      ⊎-elim
+      (λ (t : eqb n s ≡ true). let l : s < S = rw (← eqb-true n s t) h in rw (← named-by, t, lt-ltb s S l))
+      (λ (t : eqb n s ≡ false). rw (← named-by, t) (sym (and-none (ltb s S))))
+      (cases (eqb n s)) in
+      i s ∙ ap (λ (t : Bool). t || holds before s) same
 
--- ---- The smallest that is free
-
--- The numbers below n, rising.
-abbrev pub numbers : ℕ → List ℕ
-numbers n = each (λ s. s ∷ []) n
+  pub noted-not : (before : List ℕ) → S ≤ n → NotedEntry e S before before
+  noted-not before h s =
+      ⊎-elim
+      (λ (t : ltb s S ≡ true).
+      let l : s < S = ltb-true s S t in
+      rw (t, ← named-by, ne-eqb n s (λ q. omega arith)))
+      (λ (t : ltb s S ≡ false). rw t)
+      (cases (ltb s S))
 
 module _ (a : List ℕ) where
-  -- No entry names segment s.
-  abbrev pub free : ℕ → Bool
-  free s = not (named a s)
+  pub noted-none : (noted : List ℕ) → Empty noted → NotedBelow a noted 0
+  unfolding anyBelow
+  noted-none noted e s = e s ∙ sym (and-none (ltb s (segments a)))
 
-  pub free-none : firstIn free (numbers 0) ≡ none
+  pub noted-entry : (before after : List ℕ) (i : ℕ) → NotedBelow a before i → NotedEntry (entryAt a (depth a) i) (segments a) before after
+      → NotedBelow a after (i + 1)
+  unfolding anyBelow
+  noted-entry before after i b e s =
+      rw add-one (e s ∙ ap (λ (t : Bool). ltb s (segments a) && names a s i || t) (b s)
+      ∙ one-more (ltb s (segments a)) (anyBelow (names a s) i) (names a s i))
+
+  pub noted-all : (noted : List ℕ) (i : ℕ) → i ≡ 2 ^ depth a → NotedBelow a noted i → HoldsNamed noted a
+  unfolding named
+  noted-all noted i q b = record {
+    exactly-named = λ s h. b s ∙ rw (lt-ltb s (segments a) h, q) refl;
+    no-others = λ s h. b s ∙ rw (le-ltb s (segments a) h) refl;
+  }
+
+-- ---- The answer
+
+-- The numbers below n, rising.
+abbrev numbers : ℕ → List ℕ
+numbers n = each (λ s. s ∷ []) n
+
+module _ (p : ℕ → Bool) where
+  first-nowhere : (n : ℕ) → ((s : ℕ) → s < n → p s ≡ false) → firstIn p (numbers n) ≡ none
   unfolding firstIn each
-  free-none = refl
+  first-nowhere zero h = refl
+  first-nowhere (suc n) h =
+      first-append p (numbers n) (n ∷ []) (first-nowhere n (λ s k. h s (le-step k))) ∙ first-next p n [] (h n (le-refl (suc n)))
 
-  pub free-passed : (s : ℕ) → firstIn free (numbers s) ≡ none → named a s ≡ true → firstIn free (numbers (s + 1)) ≡ none
-  unfolding firstIn
-  free-passed s e h =
-      rw (add-one, each-suc (λ (s : ℕ). s ∷ []) s) (first-append free (numbers s) (s ∷ []) e ∙ first-next free s [] (ap not h))
+  first-at : (n r : ℕ) → r < n → ((s : ℕ) → s < r → p s ≡ false) → p r ≡ true → firstIn p (numbers n) ≡ some r
+  unfolding each
+  first-at zero r k h e = absurd (not-suc-le-zero k)
+  first-at (suc n) r k h e =
+      ⊎-elim
+      (λ (q : r ≡ n). first-append p (numbers n) (n ∷ []) (first-nowhere n (rw q at h)) ∙ rw q (first-here p n [] (rw q at e)))
+      (λ (l : r < n). first-append-some p (numbers n) (n ∷ []) r (first-at n r l h e))
+      (eq-or-lt-of-le (le-of-suc-le-suc k))
 
-  first-later : (s k : ℕ) → firstIn free (numbers (suc s)) ≡ some s → firstIn free (numbers (suc s + k)) ≡ some s
-  first-later s zero e = rw add-zero e
-  first-later s (suc k) e =
-      rw (add-suc, each-suc (λ (s : ℕ). s ∷ []) (suc s + k))
-      (first-append-some free (numbers (suc s + k)) ((suc s + k) ∷ []) s (first-later s k e))
+module _ {noted : List ℕ} {r : ℕ} (m : SmallestMissing r noted) (S : ℕ) where
+  pub free-there : r < S → some r ≡ freeIn noted S
+  unfolding freeIn
+  free-there h = sym (first-at (λ s. not (holds noted s)) S r h (λ s k. ap not (m .below-held s k)) (ap not (m .missing)))
 
-  pub free-at : (s : ℕ) → firstIn free (numbers s) ≡ none → named a s ≡ false → s < segments a → some s ≡ freeSegment a
-  unfolding freeSegment
-  free-at s e h l =
-      let here : firstIn free (numbers (suc s)) ≡ some s =
-      rw (each-suc (λ (s : ℕ). s ∷ []) s) (first-append free (numbers s) (s ∷ []) e ∙ first-here free s [] (ap not h)) in
-      let all : suc s + (segments a - suc s) ≡ segments a = omega arith in
-      sym (rw all at (first-later s (segments a - suc s) here))
+  pub free-nowhere : S ≤ r → none ≡ freeIn noted S
+  unfolding freeIn
+  free-nowhere h = sym (first-nowhere (λ s. not (holds noted s)) S (λ s k. ap not (m .below-held s (omega arith))))
 
-  pub free-nowhere : (s : ℕ) → s ≡ segments a → firstIn free (numbers s) ≡ none → none ≡ freeSegment a
-  unfolding freeSegment
-  free-nowhere s q e = sym (rw q at e)
+-- The answer from what the pass notes is the smallest segment that no entry names.
+pub free-named : {noted a : List ℕ} (S : ℕ) → HoldsNamed noted a → segments a ≡ S → freeIn noted S ≡ freeSegment a
+unfolding freeIn freeSegment
+free-named {noted} {a} S h q =
+    rw (← q) (first-same (λ s. not (holds noted s)) (λ s. not (named a s)) (numbers (segments a))
+    (λ s k. ap not (h .exactly-named s (range-lt s (segments a) k))))

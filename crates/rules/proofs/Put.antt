@@ -122,7 +122,7 @@ module _ (a : List ℕ) (key : ℕ) where
 
 -- ---- The free segment
 
-range-lt : (x n : ℕ) → List·Memᴰ x (each (λ s. s ∷ []) n) → x < n
+pub range-lt : (x n : ℕ) → List·Memᴰ x (each (λ s. s ∷ []) n) → x < n
 unfolding each
 range-lt x zero m = absurd (List·Memᴰ·not-nil m)
 range-lt x (suc n) m =
