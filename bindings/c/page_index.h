@@ -3,8 +3,8 @@
  * 64-bit words that keeps its contents when the power goes.
  *
  * Link with libpage_index.a (`rt staticlib page_index` writes it to target/staticlib). The library
- * needs memcpy from the C library, and nothing else. It uses no heap, keeps no state of its own
- * between calls, and may be used on several arrays from several threads, one call at a time on each
+ * needs memcpy and memset from the C library, and nothing else. It uses no heap, keeps no state of its
+ * own between calls, and may be used on several arrays from several threads, one call at a time on each
  * array. A call uses less than 8,192 bytes of stack.
  *
  * What the caller owes, for every call:
