@@ -1,5 +1,6 @@
-// One put of each kind on an index of G = 12, for tests/loads/count, which counts the loads of the directory's
-// entries in a memory trace. The trace of the call stands between two stores to `mark`.
+// A put on an index with G = 12, for tests/loads/count, which counts the loads of the directory's entries in a
+// memory trace. The put's part of the trace stands between two stores to `mark`. Printed are the addresses of the
+// first entry and of `mark`, and the put's code.
 //
 //     loads found | no_segment | split
 #include "../../bindings/c/page_index.h"
@@ -36,8 +37,7 @@ int main(int count, char **arguments) {
     mark = 1;
     page_index_reply reply = put(key);
     mark = 2;
-    const twin::word *entries = words.data() + 4096;
-    std::printf("%p %p %u %u\n", static_cast<const void *>(entries), const_cast<const void *>(static_cast<volatile void *>(&mark)),
-                reply.code, reply.stores);
+    auto address = [](const volatile twin::word *at) { return reinterpret_cast<std::uintptr_t>(at); };
+    std::printf("%zx %zx %u\n", address(words.data() + 4096), address(&mark), reply.code);
     return 0;
 }
