@@ -2,21 +2,19 @@
 -- Assumes nothing.
 use mathlib.Core.Path.{_≡_, refl, sym, ap, _∙_}
 use mathlib.Core.Bool.{Bool, true, false, not, _&&_, _||_}
-use mathlib.Core.List.{List, [], _∷_}
+use mathlib.Core.List.{List}
 use mathlib.Core.Logic.{⊎-elim}
 use mathlib.Core.Option.{none, some}
-use Prim.Native.Nat.{ℕ, zero, suc, _+_, _^_, _≤_, _<_}
-use native.Mathlib.Nat.{le-refl, le-step, le-of-suc-le-suc, not-suc-le-zero, eq-or-lt-of-le}
+use Prim.Native.Nat.{ℕ, _+_, _^_, _≤_, _<_}
 use native.Mathlib.Numerals.{add-one}
 use native.Mathlib.Omega.{arith}
 use borrow.Author.Tests.{lt-ltb, le-ltb, ltb-true, eqb-true, ne-eqb}
 use lib.Dec.{eqb, ltb}
-use Rattle.stores.specs.Lists.{each, firstIn, anyBelow}
-use Rattle.stores.proofs.Lists.{first-same, first-next, first-here, first-append, first-append-some}
+use Rattle.stores.specs.Lists.{anyBelow}
+use Rattle.stores.proofs.Numbers.{first-same-below, first-nowhere, first-at}
 use Rattle.stores.proofs.Tests.{cases}
 use Rattle.rules.specs.Layout.{depth, segments, entryAt, segmentOf}
 use Rattle.rules.specs.Slots.{named, freeSegment}
-use Rattle.rules.proofs.Put.{range-lt}
 use Rattle.directory.specs.BitSets.{holds, Empty, Inserted, SmallestMissing}
 use Rattle.directory.specs.Frees.{freeIn, NotedEntry, HoldsNamed}
 
@@ -82,26 +80,6 @@ module _ (a : List ℕ) where
 
 -- ---- The answer
 
--- The numbers below n, rising.
-abbrev numbers : ℕ → List ℕ
-numbers n = each (λ s. s ∷ []) n
-
-module _ (p : ℕ → Bool) where
-  first-nowhere : (n : ℕ) → ((s : ℕ) → s < n → p s ≡ false) → firstIn p (numbers n) ≡ none
-  unfolding firstIn each
-  first-nowhere zero h = refl
-  first-nowhere (suc n) h =
-      first-append p (numbers n) (n ∷ []) (first-nowhere n (λ s k. h s (le-step k))) ∙ first-next p n [] (h n (le-refl (suc n)))
-
-  first-at : (n r : ℕ) → r < n → ((s : ℕ) → s < r → p s ≡ false) → p r ≡ true → firstIn p (numbers n) ≡ some r
-  unfolding each
-  first-at zero r k h e = absurd (not-suc-le-zero k)
-  first-at (suc n) r k h e =
-      ⊎-elim
-      (λ (q : r ≡ n). first-append p (numbers n) (n ∷ []) (first-nowhere n (rw q at h)) ∙ rw q (first-here p n [] (rw q at e)))
-      (λ (l : r < n). first-append-some p (numbers n) (n ∷ []) r (first-at n r l h e))
-      (eq-or-lt-of-le (le-of-suc-le-suc k))
-
 module _ {noted : List ℕ} {r : ℕ} (m : SmallestMissing r noted) (S : ℕ) where
   pub free-there : r < S → some r ≡ freeIn noted S
   unfolding freeIn
@@ -115,5 +93,4 @@ module _ {noted : List ℕ} {r : ℕ} (m : SmallestMissing r noted) (S : ℕ) wh
 pub free-named : {noted a : List ℕ} (S : ℕ) → HoldsNamed noted a → segments a ≡ S → freeIn noted S ≡ freeSegment a
 unfolding freeIn freeSegment
 free-named {noted} {a} S h q =
-    rw (← q) (first-same (λ s. not (holds noted s)) (λ s. not (named a s)) (numbers (segments a))
-    (λ s k. ap not (h .exactly-named s (range-lt s (segments a) k))))
+    rw (← q) (first-same-below (λ s. not (holds noted s)) (λ s. not (named a s)) (segments a) (λ s k. ap not (h .exactly-named s k)))

@@ -2,18 +2,18 @@
 -- Assumes nothing.
 use mathlib.Core.Path.{_≡_, refl, ap, _∙_}
 use mathlib.Core.Bool.{Bool, true, false, not}
-use mathlib.Core.List.{List, [], _∷_, _++_, List·Memᴰ, List·Memᴰ·head, List·Memᴰ·not-nil, List·Memᴰ·append-cases, List·Memᴰ·eq-of-singleton, Memᴰ·append-left, Memᴰ·append-right}
+use mathlib.Core.List.{List, [], _∷_}
 use mathlib.Core.Option.{Option, none, some}
 use mathlib.Core.Logic.{⊎-elim}
 use Prim.Native.Nat.{ℕ, zero, suc, _-_, _≤_, _<_}
-use native.Mathlib.Nat.{le-step, not-suc-le-zero, eq-or-lt-of-le, le-of-suc-le-suc}
+use native.Mathlib.Nat.{eq-or-lt-of-le}
 use native.Mathlib.Omega.{arith}
 use borrow.Author.Tests.{eqb-false, ne-eqb, not-true, not-false, leb-true}
 use lib.Dec.{leb, eqb}
-use Rattle.stores.specs.Lists.{each, firstIn}
 use Rattle.stores.specs.Store.{store, apply}
 use Rattle.stores.specs.Plan.{Plan, reply-only, _then_}
-use Rattle.stores.proofs.Lists.{each-suc, first-here, first-append, first-append-some, first-some, first-none, some-none}
+use Rattle.stores.proofs.Lists.{first-some, first-none, some-none}
+use Rattle.stores.proofs.Numbers.{numbers, range-lt, lt-range, first-below}
 use Rattle.replies.specs.declared.Refusal.{Refusal}
 use Rattle.replies.specs.declared.Refusal.the-variants.{NoStore, NoKey, Broken, Unmended, TooDeep, NoSegment}
 use Rattle.rules.specs.Layout.{validHeader, depth, maxDepth, segments, segmentOf, localDepth, keyAddress, valueAddress}
@@ -122,54 +122,17 @@ module _ (a : List ℕ) (key : ℕ) where
 
 -- ---- The free segment
 
-pub range-lt : (x n : ℕ) → List·Memᴰ x (each (λ s. s ∷ []) n) → x < n
-unfolding each
-range-lt x zero m = absurd (List·Memᴰ·not-nil m)
-range-lt x (suc n) m =
-    ⊎-elim
-    (λ (k : List·Memᴰ x (each (λ s. s ∷ []) n)). le-step (range-lt x n k))
-    (λ (k : List·Memᴰ x (n ∷ [])). let e : x ≡ n = List·Memᴰ·eq-of-singleton k in omega arith)
-    (List·Memᴰ·append-cases (each (λ s. s ∷ []) n) m)
-
-lt-range : (x n : ℕ) → x < n → List·Memᴰ x (each (λ s. s ∷ []) n)
-unfolding each
-lt-range x zero h = absurd (not-suc-le-zero h)
-lt-range x (suc n) h =
-    ⊎-elim
-    (λ (e : x ≡ n). Memᴰ·append-right (each (λ s. s ∷ []) n) (List·Memᴰ·head e))
-    (λ (k : x < n). Memᴰ·append-left (n ∷ []) (lt-range x n k))
-    (eq-or-lt-of-le (le-of-suc-le-suc h))
-
 pub free-below : (a : List ℕ) (n : ℕ) → freeSegment a ≡ some n → (n < segments a) × (named a n ≡ false)
 unfolding freeSegment
 free-below a n e =
-    let r = first-some (λ s. not (named a s)) (each (λ s. s ∷ []) (segments a)) n e in
+    let r = first-some (λ s. not (named a s)) (numbers (segments a)) n e in
     (range-lt n (segments a) (r .0), not-true (named a n) (r .1))
 
 pub free-none : (a : List ℕ) → freeSegment a ≡ none → (s : ℕ) → s < segments a → named a s ≡ true
 unfolding freeSegment
 free-none a e s h =
     not-false (named a s)
-    (first-none (λ s. not (named a s)) (each (λ s. s ∷ []) (segments a)) e s (lt-range s (segments a) h))
-
--- The first of the numbers below S that passes a test is not behind any that does.
-first-below : (test : ℕ → Bool) (S n : ℕ) → n < S → test n ≡ true → (m : ℕ) × (firstIn test (each (λ s. s ∷ []) S) ≡ some m) × (m ≤ n)
-first-below test zero n h t = absurd (not-suc-le-zero h)
-first-below test (suc S) n h t =
-    ⊎-elim
-    (λ (e : n ≡ S). rw (each-suc (λ s. s ∷ []) S) (here (firstIn test (each (λ s. s ∷ []) S)) refl e))
-    (λ (l : n < S).
-    let r = first-below test S n l t in
-    (r .0, rw (each-suc (λ s. s ∷ []) S) (first-append-some test (each (λ s. s ∷ []) S) (S ∷ []) (r .0) (r .1)), r .2))
-    (eq-or-lt-of-le (le-of-suc-le-suc h))
-  where
-    here : (o : Option ℕ) → firstIn test (each (λ s. s ∷ []) S) ≡ o → n ≡ S
-        → (m : ℕ) × (firstIn test (each (λ s. s ∷ []) S ++ (S ∷ [])) ≡ some m) × (m ≤ n)
-    here (some m) q e =
-        let low : m < S = range-lt m S (first-some test (each (λ s. s ∷ []) S) m q .0) in
-        (m, first-append-some test (each (λ s. s ∷ []) S) (S ∷ []) m q, omega arith)
-    here none q e =
-        (S, first-append test (each (λ s. s ∷ []) S) (S ∷ []) q ∙ first-here test S [] (rw e at t), omega arith)
+    (first-none (λ s. not (named a s)) (numbers (segments a)) e s (lt-range s (segments a) h))
 
 -- A segment that no entry names is found, or one before it.
 pub free-found : (a : List ℕ) (n : ℕ) → n < segments a → named a n ≡ false → (m : ℕ) × (freeSegment a ≡ some m) × (m ≤ n)

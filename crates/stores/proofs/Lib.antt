@@ -2,6 +2,7 @@
 pub mod Samples
 pub mod Tests
 pub mod Lists
+pub mod Numbers
 pub mod Stores
 pub mod Prefixes
 pub mod Parts
