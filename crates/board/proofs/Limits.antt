@@ -105,21 +105,25 @@ set-other-pages a year month number v w allowance =
 
 -- ---- A print
 
--- It follows from the same words.
-module _ (a b : List ℕ) (year : ℕ) (s : (key : ℕ) → Alike a b (Get key)) where
-  same-get : (key : ℕ) → get a key ≡ get b key
-  unfolding step effect
-  same-get key = (step-local a b [] (Get key) (s key)) .reply
-
+-- It follows from the lookups of the year's jobs.
+module _ (a b : List ℕ) (year : ℕ) (same : (month number : ℕ) → get a (jobKey year month number) ≡ get b (jobKey year month number)) where
   same-month : (numbers : List ℕ) (month : ℕ) → monthLookups a year numbers month ≡ monthLookups b year numbers month
   unfolding monthLookups
   same-month [] month = refl
-  same-month (n ∷ ns) month = rw (same-get (jobKey year month n), same-month ns month) refl
+  same-month (n ∷ ns) month = rw (same month n, same-month ns month) refl
 
   same-year : yearLookups a year allNumbers ≡ yearLookups b year allNumbers
   unfolding yearLookups
   same-year = each-same _ _ 12 (λ m h. same-month allNumbers _)
 
-  pub print-local : (room : ℕ) → printYear a year room ≡ printYear b year room
+  pub print-by-lookups : (room : ℕ) → printYear a year room ≡ printYear b year room
   unfolding printYear printOver
-  print-local room = rw same-year refl
+  print-by-lookups room = rw same-year refl
+
+-- So from the words that D and S take, and the length.
+pub print-local : (a b : List ℕ) (year room : ℕ) → ((key : ℕ) → Alike a b (Get key)) → printYear a year room ≡ printYear b year room
+unfolding step effect
+print-local a b year room s =
+    print-by-lookups a b year
+    (λ month number. (step-local a b [] (Get (jobKey year month number)) (s (jobKey year month number))) .reply)
+    room

@@ -13,10 +13,10 @@ use Rattle.rules.specs.declared.Call.the-variants.{Format, Get, Mend}
 use Rattle.rules.specs.Step.{outcomeOf}
 use Rattle.rules.proofs.Table.{computed}
 use Rattle.runs.specs.Map.{Map, empty, updated, fed, mapSays}
-use Rattle.runs.specs.Run.{start, mayFollow, isRecovery, recoveryAfter, claimedAtEnd, claimed, next, finish, validRun}
+use Rattle.runs.specs.Run.{start, mayFollow, isRecovery, recoveryAfter, claimed, next, finish, validRun}
 use Rattle.runs.specs.Check.{getAgrees, callsAgree, getsAgree, agrees}
 use Rattle.board.specs.Jobs.{validYear, validMonth, validNumber, jobKey, yearTests, jobTests, behind, onJob}
-use Rattle.board_history.specs.BoardHistory.{BoardCall, sets, reads, removes, calls, board}
+use Rattle.board_history.specs.BoardHistory.{BoardCall, sets, reads, removes, prints, calls, board}
 
 -- A job's key and what the map is to have for it.
 pub record Held : Type 0 where
@@ -57,12 +57,12 @@ agreeing run held =
     validRun board (start formatted) run
     && (agrees board lookup keys (start formatted) run && mapHas (finish board (start formatted) run .map) held)
 
--- A set cut in the middle of a split, a mend cut and a mend done; jobs read in between, a job set anew, one removed; calls that the
--- board refuses with 11, 12 and 13.
+-- A set cut in the middle of a split, a mend cut and a mend done; jobs read in between, also before the mend; a job set anew, one removed; calls
+-- that the board refuses with 11, 12 and 13, also before the mend.
 abbrev pub longRun : List BoardCall
 longRun =
     sixteen
-    ++ (sets 1 1 263 5 76 ∷ own (Mend 0) ∷ own (Mend 1) ∷ reads 1 1 263 ∷ reads 1 1 23 ∷ sets 1 1 263 6 1000 ∷ reads 1 1 263 ∷ reads 0 1 263
+    ++ (sets 1 1 263 5 76 ∷ reads 1 1 263 ∷ reads 1 1 23 ∷ reads 1 13 23 ∷ prints 0 9 ∷ own (Mend 0) ∷ reads 1 1 23 ∷ sets 0 1 263 5 9 ∷ own (Mend 1) ∷ reads 1 1 263 ∷ reads 1 1 23 ∷ sets 1 1 263 6 1000 ∷ reads 1 1 263 ∷ reads 0 1 263
     ∷ sets 1 13 7 1 9 ∷ removes 1 1 4096 9 ∷ removes 1 1 23 1 ∷ reads 1 1 23 ∷ sets 1 1 39 8 1 ∷ [])
 
 pub sample : Bool
@@ -78,5 +78,5 @@ sample =
     && not (validRun board (start formatted) (sixteen ++ (sets 1 1 263 5 76 ∷ sets 1 1 7 1 9 ∷ []))))
 
 pub sample-passes : sample ≡ true
-unfolding sample agreeing computed saidSame empty updated fed mayFollow isRecovery recoveryAfter claimedAtEnd claimed next finish validRun getAgrees callsAgree getsAgree agrees validYear validMonth validNumber jobKey yearTests jobTests behind onJob
+unfolding sample agreeing computed saidSame empty updated fed mayFollow isRecovery recoveryAfter claimed next finish validRun getAgrees callsAgree getsAgree agrees validYear validMonth validNumber jobKey yearTests jobTests behind onJob
 sample-passes = refl

@@ -1,8 +1,8 @@
--- The history rule for the month board. A call that passes the board's tests is the index's call on the job's key, and keeps the
+-- The history rule for the month board, and its lookups and prints before mending. A call that passes the board's tests is the index's call on the job's key, and keeps the
 -- index's invariant; one that does not changes nothing.
 -- Assumes nothing.
 use mathlib.Core.Path.{_≡_, refl, sym, _∙_}
-use mathlib.Core.Bool.{true}
+use mathlib.Core.Bool.{Bool, true, false}
 use mathlib.Core.List.{List, [], _∷_}
 use mathlib.Core.Option.{Option, none, some}
 use Prim.Native.Nat.{ℕ, _<_}
@@ -13,29 +13,32 @@ use Rattle.stores.specs.Plan.{Outcome}
 use Rattle.replies.specs.declared.Refusal.{Refusal}
 use Rattle.replies.proofs.Outcomes.{refused-not-done}
 use Rattle.rules.specs.declared.Call.the-variants.{Get, Put, Remove}
-use Rattle.replies.specs.Replies.{Said, done, refused, numberOf}
+use Rattle.replies.specs.Replies.{Said, done, refused, numberOf, unless}
+use Rattle.replies.specs.Writing.{behindTests}
 use Rattle.rules.specs.Step.{effect, step, outcomeOf}
-use Rattle.runs.specs.Map.{View, keeps, mapSays, fed}
-use Rattle.runs.specs.Run.{Point, start, mayFollow, isRecovery, claimed, next, finish, Linked}
-use Rattle.runs.proofs.Runs.{runs-agree}
+use Rattle.runs.specs.Map.{View, looks, mapSays, fed}
+use Rattle.runs.specs.Run.{Point, start, mayFollow, isRecovery, claimed, next, finish, Linked, CallAgrees}
+use Rattle.runs.proofs.Runs.{Invariant, runs-agree}
+use Rattle.runs.proofs.BeforeMending.{lookups-before-mending}
 use Rattle.history.specs.History.{Formatted}
 use Rattle.history.proofs.Plans.{Good, CallKept, nothing-changed}
 use Rattle.history.proofs.Calls.{get-is-map}
 use Rattle.history.proofs.Theorem.{good-start, call-kept}
-use Rattle.board.specs.Jobs.{jobKey, jobTests, behind, onJob, readJob}
-use Rattle.board.specs.Print.{textOf, printYear}
+use Rattle.board.specs.Jobs.{validYear, jobKey, yearTests, jobTests, behind, onJob, readJob}
+use Rattle.board.specs.Print.{textOf, printOver, printYear}
 use Rattle.board.specs.Claims.{PrintSays, bad-year, passed-on, too-long, printed}
 use Rattle.board.proofs.Jobs.{year-bounds, tests-late, key-nonzero, passed-nonzero}
 use Rattle.board.proofs.Cases.{print-cases}
-use Rattle.board_history.specs.BoardHistory.{BoardCall, sets, reads, removes, prints, calls, boardStep, viewBehind, boardView, board, BoardHistoryRule, JobsReadBack}
+use Rattle.board.proofs.Limits.{print-by-lookups}
+use Rattle.board_history.specs.BoardHistory.{BoardCall, sets, reads, removes, prints, calls, boardStep, viewBehind, boardView, board, BoardHistoryRule, JobsReadBack, BoardBeforeMending, PrintBeforeMending}
 
 -- ---- One call
 
 -- A call that says a refusal above 7 and changes nothing.
-refused-kept : (p : Point) → Good p → (n : ℕ) → 7 < n → CallKept p keeps (refused n) (p .array)
+refused-kept : (p : Point) → Good p → (n : ℕ) → 7 < n → CallKept p looks (refused n) (p .array)
 unfolding fed isRecovery
 refused-kept p good n h =
-    nothing-changed p keeps (refused n) good refl (ne-eqb n 7 (omega arith)) refl Prim.tt
+    nothing-changed p looks (refused n) good refl (ne-eqb n 7 (omega arith)) refl Prim.tt
     (rw (ne-eqb n 1 (omega arith), ne-eqb n 3 (omega arith), ne-eqb n 4 (omega arith)) refl)
 
 -- A call behind tests that refuse with 11 or more.
@@ -55,18 +58,22 @@ map-not-refused : (v : Option ℕ) (n : ℕ) → mapSays v ≡ refused n → ⊥
 map-not-refused none n e = let z : _≡_ {A = ℕ} 0 1 = cc in omega arith
 map-not-refused (some v) n e = refused-not-done n (v ∷ []) (sym e)
 
-print-kept : (p : Point) → Good p → (year room : ℕ) → CallKept p keeps ((printYear (p .array) year room) .reply) (p .array)
-unfolding fed isRecovery claimed
+-- Every key of a valid year's jobs is claimed.
+job-claimed : (year month number : ℕ) → validYear year ≡ true → claimed (jobKey year month number) ≡ true
+unfolding claimed
+job-claimed year month number y = rw (ne-eqb (jobKey year month number) 0 (key-nonzero year month number ((year-bounds year y) .0))) refl
+
+print-kept : (p : Point) → Good p → (year room : ℕ) → CallKept p looks ((printYear (p .array) year room) .reply) (p .array)
+unfolding fed isRecovery
 print-kept p good year room = go (print-cases (p .array) year room)
   where
-    go : PrintSays (p .array) year room (printYear (p .array) year room) → CallKept p keeps ((printYear (p .array) year room) .reply) (p .array)
+    go : PrintSays (p .array) year room (printYear (p .array) year room) → CallKept p looks ((printYear (p .array) year room) .reply) (p .array)
     go (bad-year y e) = rw e (refused-kept p good 11 (omega arith))
     go (passed-on n y r k e) =
         let key : ℕ = jobKey year (r .month) (r .number) in
-        let other : claimed key ≡ true = rw (ne-eqb key 0 (key-nonzero year (r .month) (r .number) ((year-bounds year y) .0))) refl in
-        absurd (map-not-refused (p .map key) n (sym (get-is-map p good key other) ∙ r .says))
+        absurd (map-not-refused (p .map key) n (sym (get-is-map p good key (job-claimed year (r .month) (r .number) y)) ∙ r .says))
     go (too-long jobs y k j h e) = rw e (refused-kept p good 10 (omega arith))
-    go (printed jobs y k j h e) = rw e (nothing-changed p keeps (done (length (textOf jobs) ∷ [])) good refl refl refl Prim.tt refl)
+    go (printed jobs y k j h e) = rw e (nothing-changed p looks (done (length (textOf jobs) ∷ [])) good refl refl refl Prim.tt refl)
 
 pub board-kept : (p : Point) → Good p → (c : BoardCall) → mayFollow (p .needsRecovery) (boardView c) ((boardStep (p .array) c) .reply) ≡ true
     → CallKept p (boardView c) ((boardStep (p .array) c) .reply) ((boardStep (p .array) c) .after)
@@ -90,17 +97,18 @@ unfolding Linked
 linked p [] = Prim.tt
 linked p (c ∷ cs) = (Prim.tt, linked (next board p c) cs)
 
--- THE THEOREM.
-pub board-history-rule : BoardHistoryRule
+agreeing : Invariant board Formatted Good (CallAgrees board)
 unfolding step effect next
-board-history-rule a formatted run v =
-    runs-agree board Formatted Good
-    (record {
+agreeing =
+    record {
       at-start = good-start;
       kept = λ p good c made may. let k = board-kept p good c may in (k .agrees, k .good);
       says = λ p good key c said e. e ∙ get-is-map p good key c;
-    })
-    a formatted run (linked (start a) run) v
+    }
+
+-- THE THEOREM.
+pub board-history-rule : BoardHistoryRule
+board-history-rule a formatted run v = runs-agree board Formatted Good agreeing a formatted run (linked (start a) run) v
 
 -- A read behind passed tests is the lookup of the job's key.
 read-looks-up : (a : List ℕ) (year month number : ℕ) → jobTests year month number ≡ none
@@ -110,6 +118,25 @@ read-looks-up a year month number t = rw t refl
 
 pub jobs-read-back : JobsReadBack
 unfolding claimed
-jobs-read-back a formatted run v calm year month number t =
+jobs-read-back a formatted run v year month number t =
     let other : claimed (jobKey year month number) ≡ true = rw (ne-eqb (jobKey year month number) 0 (passed-nonzero year month number t)) refl in
-    (board-history-rule a formatted run v) .1 calm (jobKey year month number) other _ (read-looks-up (finish board (start a) run .array) year month number t)
+    (board-history-rule a formatted run v) .1 (jobKey year month number) other _ (read-looks-up (finish board (start a) run .array) year month number t)
+
+-- ---- Before mending
+
+pub board-before-mending : BoardBeforeMending
+board-before-mending = lookups-before-mending board Formatted Good (CallAgrees board) agreeing
+
+pub print-before-mending : PrintBeforeMending
+unfolding step effect printOver printYear yearTests unless behindTests
+print-before-mending p reached mends e year room = go (validYear year) refl
+  where
+    later : List ℕ
+    later = finish board p mends .array
+
+    go : (y : Bool) → validYear year ≡ y → printYear (p .array) year room ≡ printYear later year room
+    go true y =
+        print-by-lookups (p .array) later year
+        (λ month number. board-before-mending p reached mends (linked p mends) e (jobKey year month number) (job-claimed year month number y) _ _ refl refl)
+        room
+    go false y = rw y refl

@@ -10,8 +10,9 @@ use Rattle.replies.specs.declared.Refusal.{Refusal}
 use Rattle.rules.specs.declared.Call.the-variants.{Get}
 use Rattle.replies.specs.Replies.{Said}
 use Rattle.rules.specs.Step.{step, outcomeOf}
-use Rattle.runs.specs.Map.{View, gets, puts, removes as takes, keeps, mapSays}
-use Rattle.runs.specs.Run.{Machine, start, claimedAtEnd, finish, validRun, AgreesWithMap}
+use Rattle.runs.specs.Map.{View, gets, puts, removes as takes, looks, mapSays}
+use Rattle.runs.specs.Run.{Machine, Point, start, finish, validRun, Reached, AgreesWithMap}
+use Rattle.runs.specs.BeforeMending.{mendsToCompletion, LookupsBeforeMending}
 use Rattle.history.specs.History.{viewOf, Request, Formatted}
 use Rattle.board.specs.Jobs.{jobKey, jobTests, setJob, readJob, removeJob}
 use Rattle.board.specs.Print.{printYear}
@@ -32,17 +33,17 @@ boardStep a (removes year month number allowance) = removeJob a year month numbe
 boardStep a (prints year room) = record { reply = (printYear a year room) .reply; made = 0; after = a }
 boardStep a (calls r) = (step a (r .list) (r .call)) .outcome
 
--- What the map is told of a call behind tests: nothing where they refuse.
+-- What the map is told of a call behind tests: nothing where they refuse, and the call does not come to the array.
 abbrev pub viewBehind : Option Refusal → View → View
 viewBehind none view = view
-viewBehind (some r) view = keeps
+viewBehind (some r) view = looks
 
--- What the map is told of a call: a set is a put of the job's key, a read a get, a remove a remove.
+-- What the map is told of a call: a set is a put of the job's key, a read a get, a remove a remove. A print is made of lookups.
 abbrev pub boardView : BoardCall → View
 boardView (sets year month number pages allowance) = viewBehind (jobTests year month number) (puts (jobKey year month number) pages)
 boardView (reads year month number) = viewBehind (jobTests year month number) (gets (jobKey year month number))
 boardView (removes year month number allowance) = viewBehind (jobTests year month number) (takes (jobKey year month number))
-boardView (prints year room) = keeps
+boardView (prints year room) = looks
 boardView (calls r) = viewOf (r .call)
 
 -- The board, by the definitions. Any call can be made on any array.
@@ -63,12 +64,23 @@ abbrev pub BoardHistoryRule : Type 0
 BoardHistoryRule =
     (a : List ℕ) → Formatted a → (run : List BoardCall) → validRun board (start a) run ≡ true → AgreesWithMap board (start a) run
 
--- In the words of the board: after every such run that does not wait for a mend, a read of a job says the pages that it was last
+-- In the words of the board: after every such run, also one that waits for a mend, a read of a job says the pages that it was last
 -- set to by a done set, or absent, whatever was cut or refused in between.
 abbrev pub JobsReadBack : Type 0
 JobsReadBack =
     (a : List ℕ) → Formatted a → (run : List BoardCall) → validRun board (start a) run ≡ true
-    → claimedAtEnd (finish board (start a) run .needsRecovery) ≡ true
     → (year month number : ℕ) → jobTests year month number ≡ none
     → (readJob (finish board (start a) run .array) year month number) .reply
     ≡ mapSays (finish board (start a) run .map (jobKey year month number))
+
+-- ---- Before mending (document 02, wish 9)
+
+-- A lookup at any point of a run gives the same answer as after mending to completion.
+abbrev pub BoardBeforeMending : Type 0
+BoardBeforeMending = LookupsBeforeMending board Formatted
+
+-- So a print says the same, and writes the same lines.
+abbrev pub PrintBeforeMending : Type 0
+PrintBeforeMending =
+    (p : Point) → Reached board Formatted p → (mends : List BoardCall) → mendsToCompletion board p mends ≡ true
+    → (year room : ℕ) → printYear (p .array) year room ≡ printYear (finish board p mends .array) year room

@@ -2,22 +2,17 @@
 -- records, and a done merge frees a segment.
 -- Assumes nothing.
 use mathlib.Core.Path.{_≡_, sym, _∙_}
-use mathlib.Core.Bool.{true}
 use mathlib.Core.List.{List, []}
 use mathlib.Core.Option.{none}
 use mathlib.Core.Logic.{⊎-elim}
 use Prim.Native.Nat.{ℕ}
 use Rattle.replies.specs.Replies.{done, changed}
 use Rattle.rules.specs.Merge.{mergeTests, merge}
-use Rattle.rules.specs.Get.{get}
 use Rattle.rules.specs.Step.{effect, step}
 use Rattle.replies.proofs.Outcomes.{Complete, CutShort, changed-cases, refused-not-done, tested-none, tests-passed}
 use Rattle.rules.proofs.Listing.{done-list-leaves}
 use Rattle.rules.proofs.ListBlock.{joined-listing}
 use Rattle.rules.proofs.Merge.{merge-passed}
-use Rattle.runs.specs.Map.{mapSays}
-use Rattle.runs.specs.Run.{Point, claimed}
-use Rattle.history.specs.History.{CoveredPoint}
 use Rattle.history.specs.Further.{MendSuffices, ListIsMap, PartsAreMap, MergeFrees}
 use Rattle.history.proofs.Invariant.{shape-depth, shape-segments, shape-valid}
 use Rattle.history.proofs.Recover.{entries-recovered}
@@ -26,12 +21,8 @@ use Rattle.rules.proofs.Mending.{mend-is-done}
 use Rattle.history.proofs.Mend.{inv-mendable}
 use Rattle.history.proofs.Merge.{right-free}
 use Rattle.history.proofs.Listing.{records-list-map}
-use Rattle.history.proofs.Calls.{get-is-map, list-kept}
+use Rattle.history.proofs.Calls.{list-kept}
 use Rattle.history.proofs.Theorem.{covered-good}
-
--- A lookup at any point of a run, also where recovery is needed, says what the map says.
-pub lookup-says : (p : Point) → CoveredPoint p → (key : ℕ) → claimed key ≡ true → get (p .array) key ≡ mapSays (p .map key)
-lookup-says p c key k = get-is-map p (covered-good p c) key k
 
 pub mend-suffices : MendSuffices
 unfolding effect step

@@ -1,5 +1,6 @@
 -- The proof of the history rule.
 pub mod Samples
+pub mod EarlyLookups
 pub mod Holds
 pub mod Invariant
 pub mod Recover
@@ -23,5 +24,6 @@ pub mod Merge
 pub mod Calls
 pub mod Theorem
 pub mod Covered
+pub mod Early
 pub mod Performed
 pub mod Instance

@@ -1,12 +1,13 @@
--- The history rule over performed calls: what programs run.
+-- The history rule, and lookups before mending, over performed calls: what programs run.
 -- Assumes nothing.
 use mathlib.Core.Path.{_≡_, sym, _∙_}
 use mathlib.Core.Bool.{true}
 use Rattle.replies.specs.Replies.{saidBy}
 use Rattle.rules.specs.Step.{effect, step, Performed}
-use Rattle.runs.specs.Run.{Point, mayFollow, next}
-use Rattle.runs.proofs.Runs.{runs-agree}
-use Rattle.history.specs.History.{viewOf, Link, performed, FormatPerformed, PerformedHistoryRule}
+use Rattle.runs.specs.Run.{Point, mayFollow, next, CallAgrees}
+use Rattle.runs.proofs.Runs.{Invariant, runs-agree}
+use Rattle.runs.proofs.BeforeMending.{lookups-before-mending}
+use Rattle.history.specs.History.{viewOf, Link, performed, FormatPerformed, PerformedHistoryRule, PerformedBeforeMending}
 use Rattle.history.proofs.Plans.{Good, CallKept}
 use Rattle.history.proofs.Calls.{get-is-map}
 use Rattle.history.proofs.Theorem.{good-start, call-kept}
@@ -19,11 +20,10 @@ link-kept p good l done-so may =
     let d = done-so .answered in
     rw (d .reply, d .words) (call-kept p good (l .list) (l .call) (rw (d .reply) at may))
 
-pub performed-history-rule : PerformedHistoryRule
+agreeing : Invariant performed FormatPerformed Good (CallAgrees performed)
 unfolding effect step next
-performed-history-rule =
-    runs-agree performed FormatPerformed Good
-    (record {
+agreeing =
+    record {
       at-start = λ a f.
           good-start a
           (record {
@@ -36,4 +36,10 @@ performed-history-rule =
           });
       kept = λ p good l done-so may. let k = link-kept p good l done-so may in (k .agrees, k .good);
       says = λ p good key c said g. g .said-so ∙ g .performed .answered .reply ∙ get-is-map p good key c;
-    })
+    }
+
+pub performed-history-rule : PerformedHistoryRule
+performed-history-rule = runs-agree performed FormatPerformed Good agreeing
+
+pub performed-before-mending : PerformedBeforeMending
+performed-before-mending = lookups-before-mending performed FormatPerformed Good (CallAgrees performed) agreeing

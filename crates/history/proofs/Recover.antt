@@ -33,7 +33,7 @@ module _ {m : Map} {g d S : ℕ} {f : ℕ → ℕ} {a : List ℕ} (inv : Inv m g
   pub inv-leading : (i : ℕ) → i < 2 ^ g → leadingEntry a g i ≡ f i
   inv-leading = blocks-leading a g S f (inv .directory .entries) (inv .leaders-agree)
 
-  inv-leaders-valid : leadersValid a g S ≡ true
+  pub inv-leaders-valid : leadersValid a g S ≡ true
   inv-leaders-valid = blocks-valid a g S f (inv .directory .entries) (inv .leaders-agree)
 
   recovered-agree : Recovered g f a → entriesAgree a g ≡ true

@@ -12,7 +12,7 @@ use Rattle.rules.specs.declared.Call.the-variants.{Format, Get, Put, Remove, Me
 use Rattle.rules.specs.Step.{outcomeOf}
 use Rattle.rules.proofs.Table.{computed}
 use Rattle.runs.specs.Map.{empty, updated, fed}
-use Rattle.runs.specs.Run.{start, mayFollow, isRecovery, recoveryAfter, claimedAtEnd, claimed, next, finish, validRun}
+use Rattle.runs.specs.Run.{start, mayFollow, isRecovery, recoveryAfter, claimed, next, finish, validRun}
 use Rattle.history.specs.History.{Request, index}
 use Rattle.runs.specs.Check.{getAgrees, callsAgree, getsAgree, agrees}
 
@@ -53,20 +53,20 @@ abbrev pub keys : List ℕ
 keys = 0 ∷ 263 ∷ 8 ∷ each (λ i. (7 + 16 * i) ∷ []) 16
 
 -- A split cut between its entries, a mend cut, a mend done; a remove, a put and a remove that are refused or cut, formats refused, a
--- get of 0, listings with and without room, and gets in between.
+-- get of 0, listings with and without room, and gets in between, also where a mend is awaited.
 abbrev pub longRun : List Call
 longRun =
     sixteen
-    ++ (Get 7 ∷ Put 263 5 76 ∷ Mend 0 ∷ Format 1 4 100 ∷ Format 2 5 100 ∷ Mend 1 ∷ Get 263 ∷ Get 23 ∷ Put 263 6 1000 ∷ Get 263 ∷ Remove 23 1
-    ∷ Get 23 ∷ Remove 23 1 ∷ Put 0 9 100 ∷ Get 0 ∷ Remove 0 1 ∷ ListCall ∷ ListBlock 0 ∷ ListBlock 1 ∷ ListBlock 2 ∷ Put 7 1 1 ∷ Get 7 ∷ Remove 39 0 ∷ Mend 5 ∷ Get 39 ∷ Format 12 4096 100 ∷ [])
+    ++ (Get 7 ∷ Put 263 5 76 ∷ Get 23 ∷ Get 263 ∷ Mend 0 ∷ Get 23 ∷ Format 1 4 100 ∷ Format 2 5 100 ∷ Get 0 ∷ Mend 1 ∷ Get 263 ∷ Get 23 ∷ Put 263 6 1000 ∷ Get 263 ∷ Remove 23 1
+    ∷ Get 23 ∷ Remove 23 1 ∷ Put 0 9 100 ∷ Get 0 ∷ Remove 0 1 ∷ ListCall ∷ ListBlock 0 ∷ ListBlock 1 ∷ ListBlock 2 ∷ Put 7 1 1 ∷ Get 7 ∷ Remove 39 0 ∷ Get 39 ∷ Mend 5 ∷ Get 39 ∷ Format 12 4096 100 ∷ [])
 
 -- Behind the split of 279 segment 0 keeps a stale record of page 23. Page 23 is removed; then a merge that is refused with 15, since 7 and
 -- 279 stand in one slot; one that is cut before its first entry, and mended; one that is cut behind it, and mended by a cut mend and a done
--- one; merges refused with 14 and 2; a put that splits again; and a merge that is done. Pages are asked for in between.
+-- one; merges refused with 14 and 2; a put that splits again; and a merge that is done. Pages are asked for in between, also before the mends.
 abbrev pub mergeRun : List Call
 mergeRun =
     sixteen
-    ++ (Put 279 5 1000 ∷ Remove 23 1 ∷ Merge 7 1000 ∷ Remove 7 1 ∷ Merge 39 17 ∷ Mend 0 ∷ Get 55 ∷ Merge 39 17 ∷ Mend 0 ∷ Mend 1 ∷ Get 23 ∷ Get 55
+    ++ (Put 279 5 1000 ∷ Remove 23 1 ∷ Merge 7 1000 ∷ Remove 7 1 ∷ Merge 39 17 ∷ Get 55 ∷ Mend 0 ∷ Get 55 ∷ Merge 39 17 ∷ Get 55 ∷ Get 39 ∷ Mend 0 ∷ Get 55 ∷ Mend 1 ∷ Get 23 ∷ Get 55
     ∷ Get 279 ∷ Merge 39 1000 ∷ Merge 0 1000 ∷ Put 7 8 2 ∷ Put 263 6 1000 ∷ Get 23 ∷ Get 263 ∷ ListCall ∷ Remove 263 1 ∷ Merge 39 1000 ∷ Get 39
     ∷ Get 55 ∷ [])
 
@@ -77,25 +77,27 @@ samples =
     ∷ record { calls = longRun; keys = keys; valid = true }
     -- merges, cut and whole, and a page removed before them that does not come back
     ∷ record { calls = mergeRun; keys = 279 ∷ keys; valid = true }
-    -- left waiting for a mend
+    -- left waiting for a mend, behind a put that was cut between its entries, one that was cut between value and key, and a remove
     ∷ record { calls = sixteen ++ (Put 263 5 76 ∷ []); keys = keys; valid = true }
+    ∷ record { calls = Put 7 1 1 ∷ Get 7 ∷ []; keys = keys; valid = true }
+    ∷ record { calls = Put 7 1 2 ∷ Remove 7 0 ∷ Get 7 ∷ []; keys = keys; valid = true }
     -- a put that is cut is not told to the map; nor is one that is refused
     ∷ record { calls = Put 7 1 2 ∷ Put 7 2 0 ∷ Mend 0 ∷ Get 7 ∷ Put 0 3 2 ∷ []; keys = keys; valid = true }
     -- a removed key is absent
     ∷ record { calls = Put 7 1 2 ∷ Remove 7 1 ∷ Get 7 ∷ []; keys = keys; valid = true }
-    -- no valid runs: a format that is done or cut off; calls other than mends and refused formats where a mend is awaited
+    -- no valid runs: a format that is done or cut off; calls other than gets, mends and refused formats where a mend is awaited
     ∷ record { calls = Format 2 4 100 ∷ []; keys = []; valid = false }
     ∷ record { calls = Format 2 4 66 ∷ []; keys = []; valid = false }
     ∷ record { calls = Put 7 1 1 ∷ Put 7 1 2 ∷ []; keys = []; valid = false }
-    ∷ record { calls = Put 7 1 1 ∷ Get 7 ∷ []; keys = []; valid = false }
+    ∷ record { calls = Put 7 1 1 ∷ Get 7 ∷ Remove 7 1 ∷ []; keys = []; valid = false }
     ∷ record { calls = Put 7 1 2 ∷ Remove 7 0 ∷ ListCall ∷ []; keys = []; valid = false }
     ∷ record { calls = Put 7 1 2 ∷ Remove 7 0 ∷ ListBlock 0 ∷ []; keys = []; valid = false }
     ∷ record { calls = sixteen ++ (Put 263 5 76 ∷ Mend 0 ∷ Put 7 1 1 ∷ []); keys = []; valid = false }
     -- a cut merge waits for a mend as a cut put does, and merges wait for it too
-    ∷ record { calls = sixteen ++ (Put 263 5 79 ∷ Remove 263 1 ∷ Merge 7 16 ∷ Get 7 ∷ []); keys = []; valid = false }
+    ∷ record { calls = sixteen ++ (Put 263 5 79 ∷ Remove 263 1 ∷ Merge 7 16 ∷ Get 7 ∷ Put 7 1 1 ∷ []); keys = []; valid = false }
     ∷ record { calls = Put 7 1 1 ∷ Merge 7 1 ∷ []; keys = []; valid = false }
     ∷ []
 
 pub samples-pass : allPass samples ≡ true
-unfolding computed passes allPass samples empty updated fed mayFollow isRecovery recoveryAfter claimedAtEnd claimed next finish validRun saidSame getAgrees callsAgree getsAgree agrees
+unfolding computed passes allPass samples empty updated fed mayFollow isRecovery recoveryAfter claimed next finish validRun saidSame getAgrees callsAgree getsAgree agrees
 samples-pass = refl

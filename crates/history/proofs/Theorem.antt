@@ -1,4 +1,4 @@
--- The history rule. Its invariant is `Good` (Plans.antt); each call keeps it (Calls.antt); here is the induction over the run.
+-- The history rule, and lookups before mending. The invariant is `Good` (Plans.antt); each call keeps it (Calls.antt); here is the induction over the run.
 -- Assumes nothing.
 use mathlib.Core.Path.{_≡_, refl, _∙_}
 use mathlib.Core.Bool.{true, false}
@@ -13,7 +13,8 @@ use Rattle.rules.specs.Step.{effect, step}
 use Rattle.runs.specs.Map.{empty}
 use Rattle.runs.specs.Run.{Point, start, mayFollow, next, Linked, CallAgrees}
 use Rattle.runs.proofs.Runs.{Invariant, runs-agree, each-call, reached-good}
-use Rattle.history.specs.History.{viewOf, Request, index, Formatted, HistoryRule, CoveredPoint}
+use Rattle.runs.proofs.BeforeMending.{lookups-before-mending}
+use Rattle.history.specs.History.{viewOf, Request, index, Formatted, HistoryRule, BeforeMending, CoveredPoint}
 use Rattle.history.specs.Further.{NeverDamage}
 use Rattle.history.proofs.Format.{format-leaves}
 use Rattle.history.proofs.Plans.{Good, CallKept}
@@ -69,10 +70,17 @@ unfolding Linked
 linked p [] = Prim.tt
 linked p (r ∷ rs) = (Prim.tt, linked (next index p r) rs)
 
+-- With each get that agrees with the map.
+agreeing : Invariant index Formatted Good (CallAgrees index)
+agreeing = invariant (CallAgrees index) (λ p r k. k .agrees)
+
 -- THE THEOREM: demand 3 of document 01.
 pub history-rule : HistoryRule
-history-rule a formatted calls v =
-    runs-agree index Formatted Good (invariant (CallAgrees index) (λ p r k. k .agrees)) a formatted calls (linked (start a) calls) v
+history-rule a formatted calls v = runs-agree index Formatted Good agreeing a formatted calls (linked (start a) calls) v
+
+-- Wish 9 of document 02.
+pub before-mending : BeforeMending
+before-mending = lookups-before-mending index Formatted Good (CallAgrees index) agreeing
 
 -- ---- What else holds of every run
 
@@ -84,4 +92,4 @@ never-damage a formatted calls v =
 
 -- Every point that the rule covers is good.
 pub covered-good : (p : Point) → CoveredPoint p → Good p
-covered-good p c = reached-good index Formatted Good (CallAgrees index) (invariant (CallAgrees index) (λ p r k. k .agrees)) p c
+covered-good = reached-good index Formatted Good (CallAgrees index) agreeing

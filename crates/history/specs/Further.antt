@@ -2,22 +2,24 @@
 -- Assumes nothing.
 use Prim.Native.Nat.{ℕ, _^_, _≤_, _<_}
 use mathlib.Core.Path.{_≡_}
-use mathlib.Core.Bool.{true, false}
+use mathlib.Core.Bool.{Bool, true, false, not, _&&_, _||_}
 use mathlib.Core.List.{List, [], _∷_}
 use lib.ListN.{length}
 use Rattle.stores.specs.Written.{atFront}
+use Rattle.rules.specs.declared.Call.{Call}
 use Rattle.rules.specs.declared.Call.the-variants.{Merge, Mend, List as ListCall}
 use Rattle.replies.specs.declared.Answer.{Answer}
 use mathlib.Core.Option.{some}
 use Rattle.rules.specs.Layout.{depth, segments}
 use Rattle.rules.specs.Slots.{named, freeSegment}
 use Rattle.rules.specs.Merge.{rightOf}
-use Rattle.replies.specs.Replies.{done, saidBy, saysDamage}
+use Rattle.replies.specs.Replies.{done, saidBy, isRefusal, saysDamage}
+use Rattle.rules.specs.Mend.{mending}
 use Rattle.rules.specs.Listing.{records, wordsOf}
 use Rattle.rules.specs.Step.{step, Performed}
 use Rattle.rules.specs.JoinedListing.{Gathered}
-use Rattle.runs.specs.Run.{Point, start, validRun, EachCall}
-use Rattle.history.specs.History.{Request, index, Formatted, CoveredPoint}
+use Rattle.runs.specs.Run.{Point, start, mayFollow, validRun, EachCall}
+use Rattle.history.specs.History.{viewOf, Request, index, Formatted, CoveredPoint}
 use Rattle.history.specs.Listing.{ListsMap}
 
 -- In a run no call answers 1, 3 or 4.
@@ -31,6 +33,18 @@ abbrev pub MendSuffices : Type 0
 MendSuffices =
     (p : Point) → CoveredPoint p → (allowance : ℕ) (l : List ℕ) → 2 ^ depth (p .array) ≤ allowance
     → (step (p .array) l (Mend allowance)) .outcome .reply ≡ done []
+
+-- The call waits for the mend: in a run it may come where none is awaited, and not where one is.
+abbrev pub waitsForMend : Call → Bool
+waitsForMend c = mayFollow false (viewOf c) (done []) && not (mayFollow true (viewOf c) (done []))
+
+-- Such a call, made before the mend all the same (no run has one): unless it answers 2 or 4, the mend has no store to make, so that the call was made
+-- on the mended store.
+abbrev pub EarlyCalls : Type 0
+EarlyCalls =
+    (p : Point) → CoveredPoint p → (l : List ℕ) (c : Call) → waitsForMend c ≡ true
+    → (isRefusal 2 ((step (p .array) l c) .outcome .reply) || isRefusal 4 ((step (p .array) l c) .outcome .reply)) ≡ false
+    → mending (p .array) ≡ []
 
 -- A performed list that is done, where the store needs no recovery, has left the records of the array, and they are the map's.
 abbrev pub ListIsMap : Type 0

@@ -11,6 +11,7 @@ use Rattle.replies.specs.Replies.{Said, done, saidBy}
 use Rattle.rules.specs.Step.{step, outcomeOf, Performed}
 use Rattle.runs.specs.Map.{View, formats, gets, puts, removes, mends, keeps}
 use Rattle.runs.specs.Run.{Machine, Point, start, validRun, Reached, AgreesWithMap, RunsAgree}
+use Rattle.runs.specs.BeforeMending.{LookupsBeforeMending}
 
 -- What the map is told of a call.
 abbrev pub viewOf : Call → View
@@ -56,6 +57,11 @@ pub record Formatted (a : List ℕ) : Type 0 where
 abbrev pub HistoryRule : Type 0
 HistoryRule =
     (a : List ℕ) → Formatted a → (calls : List Request) → validRun index (start a) calls ≡ true → AgreesWithMap index (start a) calls
+
+-- Document 02, wish 9: a lookup at any point of a run, so on an array that a cut put, remove, merge or mend has left, gives the same answer as
+-- after mending to completion.
+abbrev pub BeforeMending : Type 0
+BeforeMending = LookupsBeforeMending index Formatted
 
 -- The history rule covers a point: some valid run from a done format comes to it.
 abbrev pub CoveredPoint : Point → Type 0
@@ -121,3 +127,7 @@ pub record FormatPerformed (a : List ℕ) : Type 0 where
 -- is a valid run agrees with the map.
 abbrev pub PerformedHistoryRule : Type 0
 PerformedHistoryRule = RunsAgree performed FormatPerformed
+
+-- Wish 9 over what code does: performed gets, before performed mends and after them.
+abbrev pub PerformedBeforeMending : Type 0
+PerformedBeforeMending = LookupsBeforeMending performed FormatPerformed

@@ -30,10 +30,10 @@ use Rattle.rules.specs.Merge.{joinedDepth, joinedBits, leftEntry, rightS
 use Rattle.rules.specs.Step.{effect, step, outcomeOf}
 use Rattle.rules.specs.Finished.{mendedBy, slotStores, MendingFinishes, MendingLeaves, MendingIsDone}
 use Rattle.rules.proofs.Words.{small, header-valid, Within, within-inside, entry-to, directories-below}
-use Rattle.rules.proofs.Blocks.{Blocks}
+use Rattle.rules.proofs.Blocks.{Blocks, blocks-agree}
 use Rattle.rules.proofs.Doubling.{DirectoryWord}
 use Rattle.rules.proofs.Updating.{same-start}
-use Rattle.rules.proofs.Mending.{Mendable, mending-partly, mended-entries, mend-is-done}
+use Rattle.rules.proofs.Mending.{nothing-to-mend, Mendable, mending-partly, mended-entries, mend-is-done}
 use Rattle.rules.proofs.Joining.{joinedDirectory, joined-depth, joined-blocks, begins-joined, all-joined}
 use Rattle.rules.proofs.Merge.{MergePassed, merge-passed, slots-within, passed-halves, passed-left, passed-right, entries-words}
 
@@ -88,12 +88,9 @@ by-word g x P outside inside =
 
 -- All entries are f's, which is consistent: no mend changes a word.
 mend-nothing : {g S : ℕ} {f : ℕ → ℕ} {a : List ℕ} → Mendable g S f a → ((i : ℕ) → i < 2 ^ g → entryAt a g i ≡ f i) → (n : ℕ) → exec (mending a) n a ≡ a
+unfolding apply
 mend-nothing {g} {S} {f} {a} m all n =
-    let p = mending-partly m n in
-    ext-getD 0 (exec (mending a) n a) a (p .length-same)
-    (λ x h.
-    by-word g x (λ y. word (exec (mending a) n a) y ≡ word a y) (p .elsewhere x)
-    (λ i k. ⊎-elim (λ e. e) (λ e. e ∙ sym (all i k)) (p .entries i k)))
+    rw (nothing-to-mend a (rw (m .deep) (blocks-agree a g S f (m .dir) (m .begins) all))) (exec-all [] n a (omega arith))
 
 -- ---- A merge that passes its tests, on an array with a consistent directory
 

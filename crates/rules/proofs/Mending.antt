@@ -3,9 +3,9 @@
 -- Assumes nothing.
 use mathlib.Core.Path.{_≡_, refl, ap, _∙_}
 use mathlib.Core.Bool.{Bool, true, false}
-use mathlib.Core.List.{List, [], _∷_}
+use mathlib.Core.List.{List, [], _∷_, _++_}
 use mathlib.Core.Logic.{_⊎_, inl, inr, ⊎-elim}
-use Prim.Native.Nat.{ℕ, suc, _-_, _*_, _^_, _≤_, _<_}
+use Prim.Native.Nat.{ℕ, zero, suc, _-_, _*_, _^_, _≤_, _<_}
 use native.Mathlib.Omega.{arith}
 use borrow.Author.Tests.{eqb-true, eq-eqb}
 use lib.Dec.{eqb}
@@ -20,11 +20,29 @@ use Rattle.replies.proofs.Outcomes.{changed-complete, tested-none}
 use Rattle.rules.specs.declared.Call.the-variants.{Mend}
 use Rattle.rules.specs.Layout.{depth, segments, validHeader, entryAddress, entryAt, localDepth}
 use Rattle.rules.specs.Keys.{blockStart}
+use Rattle.rules.specs.Scan.{leadingEntry, entriesAgree}
 use Rattle.rules.specs.Mend.{mendEntry, mendTests, mending, mend}
 use Rattle.rules.specs.Step.{effect, step, outcomeOf}
 use Rattle.rules.proofs.Words.{entry-to}
+use Rattle.rules.proofs.Scan.{agree-at}
 use Rattle.rules.proofs.Doubling.{DirectoryWord}
 use Rattle.rules.proofs.Blocks.{Blocks, blocks-leading, blocks-valid}
+
+-- ---- A consistent directory
+
+each-nothing : {A : Type 0} (n : ℕ) → each {A = A} (λ i. []) n ≡ []
+unfolding each
+each-nothing zero = refl
+each-nothing {A} (suc n) = ap (λ (xs : List A). xs ++ []) (each-nothing n)
+
+-- Where every entry equals its leader, a mend has no store to make.
+pub nothing-to-mend : (a : List ℕ) → entriesAgree a (depth a) ≡ true → mending a ≡ []
+unfolding mending mendEntry
+nothing-to-mend a agree =
+    each-same _ (λ i. []) (2 ^ depth a) (λ i h. rw (agree-at a (depth a) i agree h, eq-eqb (leadingEntry a (depth a) i) _ refl))
+    ∙ each-nothing (2 ^ depth a)
+
+-- ---- Any number of a mend's stores
 
 -- b is a with some entries of the directory of depth g replaced by f's, and nothing else changed.
 pub record PartlyMended (g : ℕ) (f : ℕ → ℕ) (a b : List ℕ) : Type 0 where

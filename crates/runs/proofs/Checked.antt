@@ -1,4 +1,4 @@
--- What the claim says of a run, the computed test finds.
+-- What the claims say of a run and of mends, the computed tests find.
 -- Assumes nothing.
 use Prim.Native.Nat.{ℕ}
 use mathlib.Core.Path.{_≡_, refl}
@@ -11,9 +11,10 @@ use Rattle.stores.specs.Lists.{numbersSame}
 use Rattle.replies.specs.declared.Following.{Following}
 use Rattle.replies.specs.declared.Following.the-variants.{Next, Last}
 use Rattle.replies.specs.Replies.{Said, done, listed, absent, refused, followingSame, saidSame}
-use Rattle.runs.specs.Map.{Map, View, formats, gets, puts, removes, mends, keeps, mapSays}
-use Rattle.runs.specs.Run.{Machine, Point, claimedAtEnd, claimed, next, finish, EachCall, GetAgrees, CallAgrees, AgreesWithMap}
-use Rattle.runs.specs.Check.{getAgrees, callsAgree, getsAgree, agrees}
+use Rattle.runs.specs.Map.{Map, View, formats, gets, puts, removes, mends, looks, keeps, mapSays}
+use Rattle.runs.specs.Run.{Machine, Point, claimed, next, finish, Linked, Reached, EachCall, GetAgrees, CallAgrees, AgreesWithMap}
+use Rattle.runs.specs.BeforeMending.{mendsToCompletion, LookupsBeforeMending}
+use Rattle.runs.specs.Check.{sameOf, getAgrees, callsAgree, getsAgree, agrees, sameAnswers, mendsUnseen}
 
 numbers-same : (xs : List ℕ) → numbersSame xs xs ≡ true
 unfolding numbersSame
@@ -32,14 +33,18 @@ said-same (listed n f) = and-true (eq-eqb n n refl) (following-same f)
 said-same absent = refl
 said-same (refused n) = eq-eqb n n refl
 
--- A get of a claimed key that says what the map says passes the test.
-get-checked : (key : ℕ) (said : Said) (m : Map) → (claimed key ≡ true → said ≡ mapSays (m key)) → getAgrees (gets key) said m ≡ true
-unfolding getAgrees
-get-checked key said m h =
+-- Where both say the same of a claimed key, the test of it passes.
+same-checked : (key : ℕ) (s t : Said) → (claimed key ≡ true → s ≡ t) → sameOf key s t ≡ true
+same-checked key s t h =
     ⊎-elim
-    (λ (c : claimed key ≡ true). or-right (not (claimed key)) (rw (h c) (said-same (mapSays (m key)))))
+    (λ (c : claimed key ≡ true). or-right (not (claimed key)) (rw (h c) (said-same t)))
     (λ (c : claimed key ≡ false). rw c)
     (cases (claimed key))
+
+-- A get of a claimed key that says what the map says passes its test.
+get-checked : (key : ℕ) (said : Said) (m : Map) → (claimed key ≡ true → said ≡ mapSays (m key)) → getAgrees (gets key) said m ≡ true
+unfolding getAgrees
+get-checked key said m h = same-checked key said (mapSays (m key)) h
 
 call-checked : (view : View) (said : Said) (m : Map) → GetAgrees view said m → getAgrees view said m ≡ true
 unfolding getAgrees
@@ -48,6 +53,7 @@ call-checked (gets key) said m h = get-checked key said m h
 call-checked (puts key value) said m h = refl
 call-checked (removes key) said m h = refl
 call-checked mends said m h = refl
+call-checked looks said m h = refl
 call-checked keeps said m h = refl
 
 calls-checked : (M : Machine) (p : Point) (calls : List (M .Call)) → EachCall M (CallAgrees M) p calls → callsAgree M p calls ≡ true
@@ -67,10 +73,24 @@ pub claim-checked : (M : Machine) (lookup : List ℕ → ℕ → Said) → ((a :
 unfolding agrees
 claim-checked M lookup so keys p calls h =
     and-true (calls-checked M p calls (h .0))
-    (⊎-elim
-    (λ (c : claimedAtEnd (finish M p calls .needsRecovery) ≡ true).
-    or-right (not (claimedAtEnd (finish M p calls .needsRecovery)))
     (ends-checked lookup (finish M p calls) keys
-    (λ key k. h .1 c key k (lookup (finish M p calls .array) key) (so (finish M p calls .array) key))))
-    (λ (c : claimedAtEnd (finish M p calls .needsRecovery) ≡ false). rw c)
-    (cases (claimedAtEnd (finish M p calls .needsRecovery))))
+    (λ key k. h .1 key k (lookup (finish M p calls .array) key) (so (finish M p calls .array) key)))
+
+answers-checked : (lookup : List ℕ → ℕ → Said) (a b keys : List ℕ) → ((key : ℕ) → claimed key ≡ true → lookup a key ≡ lookup b key)
+    → sameAnswers lookup a b keys ≡ true
+unfolding sameAnswers
+answers-checked lookup a b [] h = refl
+answers-checked lookup a b (key ∷ keys) h =
+    and-true (same-checked key (lookup a key) (lookup b key) (h key)) (answers-checked lookup a b keys h)
+
+-- The same of mending to completion.
+pub mends-checked : (M : Machine) (Start : List ℕ → Type 0) (lookup : List ℕ → ℕ → Said)
+    → ((a : List ℕ) (key : ℕ) → M .Says a key (lookup a key)) → LookupsBeforeMending M Start
+    → (keys : List ℕ) (p : Point) → Reached M Start p → (calls : List (M .Call)) → Linked M p calls → mendsToCompletion M p calls ≡ true
+    → mendsUnseen M lookup keys p calls ≡ true
+unfolding mendsUnseen
+mends-checked M Start lookup so claim keys p reached calls linked e =
+    let b : List ℕ = finish M p calls .array in
+    and-true e
+    (answers-checked lookup (p .array) b keys
+    (λ key k. claim p reached calls linked e key k (lookup (p .array) key) (lookup b key) (so (p .array) key) (so b key)))

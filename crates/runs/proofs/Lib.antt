@@ -1,4 +1,5 @@
--- The induction over runs, and the claim as a computed test.
+-- The induction over runs, lookups before mending, and both claims as computed tests.
 pub mod Runs
+pub mod BeforeMending
 pub mod Samples
 pub mod Checked

@@ -5,9 +5,7 @@ use mathlib.Core.Path.{_≡_, refl, sym, ap, _∙_}
 use mathlib.Core.Bool.{true}
 use mathlib.Core.List.{List, [], _∷_, _++_}
 use Rattle.stores.proofs.Tests.{and-left, and-right, and-true}
-use Rattle.replies.specs.Replies.{Said}
-use Rattle.runs.specs.Map.{mapSays}
-use Rattle.runs.specs.Run.{Machine, Point, start, claimed, next, finish, Linked, mayCall, validRun, Reached, EachCall, CallAgrees, RunsAgree}
+use Rattle.runs.specs.Run.{Machine, Point, start, next, finish, Linked, mayCall, validRun, Reached, EachCall, CallAgrees, LookupsAgree, RunsAgree}
 
 -- ---- A run of one call more
 
@@ -27,7 +25,7 @@ module _ (M : Machine) (p : Point) (c : M .Call) (cs : List (M .Call)) (v : vali
 pub record Invariant (M : Machine) (Start : List ℕ → Type 0) (Good : Point → Type 0) (P : Point → M .Call → Type 0) : Type 0 where
   pub at-start : (a : List ℕ) → Start a → Good (start a)
   pub kept : (p : Point) → Good p → (c : M .Call) → M .Made (p .array) c → mayCall M p c ≡ true → P p c × Good (next M p c)
-  pub says : (p : Point) → Good p → (key : ℕ) → claimed key ≡ true → (said : Said) → M .Says (p .array) key said → said ≡ mapSays (p .map key)
+  pub says : (p : Point) → Good p → LookupsAgree M p
 
 module _ (M : Machine) (Start : List ℕ → Type 0) (Good : Point → Type 0) (P : Point → M .Call → Type 0) (inv : Invariant M Start Good P) where
   -- THE INDUCTION: P holds of each call of a run, and the invariant at its end.
@@ -53,7 +51,7 @@ module _ (M : Machine) (Start : List ℕ → Type 0) (Good : Point → Type 0) (
 pub runs-agree : (M : Machine) (Start : List ℕ → Type 0) (Good : Point → Type 0) → Invariant M Start Good (CallAgrees M) → RunsAgree M Start
 runs-agree M Start Good inv a s calls linked v =
     let run = run-kept M Start Good (CallAgrees M) inv (start a) (inv .at-start a s) calls linked v in
-    (run .0, λ at-end key k said says. inv .says (finish M (start a) calls) (run .1) key k said says)
+    (run .0, inv .says (finish M (start a) calls) (run .1))
 
 -- ---- Runs one behind the other
 

@@ -1,4 +1,5 @@
 -- The abstract map, a run of calls on a store, and the claim about it.
 pub mod Map
 pub mod Run
+pub mod BeforeMending
 pub mod Check

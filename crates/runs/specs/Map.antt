@@ -27,6 +27,8 @@ pub data View : Type 0 where
   puts : (key value : ℕ) → View
   removes : (key : ℕ) → View
   mends : View
+  -- a call that is made of lookups, or does not come to the array: it tells the map nothing
+  looks : View
   -- any other call: it tells the map nothing
   keeps : View
 
@@ -40,6 +42,7 @@ fed (removes key) false m = m
 fed formats d m = m
 fed (gets key) d m = m
 fed mends d m = m
+fed looks d m = m
 fed keeps d m = m
 
 -- What the map says of a key: its value, or absent.

@@ -7,7 +7,7 @@ use mathlib.Core.List.{List, [], _∷_}
 use lib.Dec.{eqb}
 use Rattle.stores.specs.Plan.{Outcome}
 use Rattle.replies.specs.Replies.{Said, isDone, isRefusal}
-use Rattle.runs.specs.Map.{Map, View, formats, gets, puts, removes, mends, keeps, empty, fed, mapSays}
+use Rattle.runs.specs.Map.{Map, View, formats, gets, puts, removes, mends, looks, keeps, empty, fed, mapSays}
 
 -- A store of words with its calls.
 pub record Machine : Type 1 where
@@ -33,33 +33,36 @@ pub record Point : Type 0 where
 abbrev pub start : List ℕ → Point
 start a = record { array = a; map = empty; needsRecovery = false }
 
--- ---- Which call may come next, and where the claim is made
+-- ---- Which call may come next, and which lookups are claimed
 
--- A call with this view and reply may come next. A format only with reply 8 or 9; and where the store needs recovery, only mends and such formats.
+-- A call with this view and reply may come next. A format only with reply 8 or 9; lookups at any time (document 02, wish 9); and where the store
+-- needs recovery, besides these only mends.
 unfoldable pub mayFollow : (needsRecovery : Bool) → View → Said → Bool
 mayFollow waits formats said = isRefusal 8 said || isRefusal 9 said
-mayFollow waits (gets key) said = not waits
+mayFollow waits (gets key) said = true
 mayFollow waits (puts key value) said = not waits
 mayFollow waits (removes key) said = not waits
 mayFollow waits mends said = true
+mayFollow waits looks said = true
 mayFollow waits keeps said = not waits
+
+-- A mend.
+abbrev pub isMend : View → Bool
+isMend formats = false
+isMend (gets key) = false
+isMend (puts key value) = false
+isMend (removes key) = false
+isMend mends = true
+isMend looks = false
+isMend keeps = false
 
 -- A done mend.
 unfoldable pub isRecovery : View → Said → Bool
-isRecovery formats said = false
-isRecovery (gets key) said = false
-isRecovery (puts key value) said = false
-isRecovery (removes key) said = false
-isRecovery mends said = isDone said
-isRecovery keeps said = false
+isRecovery view said = isMend view && isDone said
 
 -- The store needs recovery after a call: from a reply 7 on, until a mend is done. `cuts` says whether a cut begins the need.
 unfoldable pub recoveryAfter : (cuts needsRecovery : Bool) → View → Said → Bool
 recoveryAfter cuts waits view said = cuts && isRefusal 7 said || (waits && not (isRecovery view said))
-
--- Lookups are claimed at the end of a run: where the store does not need recovery.
-unfoldable pub claimedAtEnd : (needsRecovery : Bool) → Bool
-claimedAtEnd waits = not waits
 
 -- Lookups of a key are claimed: of every key but 0.
 unfoldable pub claimed : (key : ℕ) → Bool
@@ -118,17 +121,17 @@ GetAgrees (gets key) said m = claimed key ≡ true → said ≡ mapSays (m key)
 GetAgrees (puts key value) said m = Unit {0}
 GetAgrees (removes key) said m = Unit {0}
 GetAgrees mends said m = Unit {0}
+GetAgrees looks said m = Unit {0}
 GetAgrees keeps said m = Unit {0}
 
 -- The same of a call of the store, by the map as the calls before it left it.
 abbrev pub CallAgrees : (M : Machine) → Point → M .Call → Type 0
 CallAgrees M p c = GetAgrees (M .view c) ((M .step (p .array) c) .reply) (p .map)
 
--- Where lookups are claimed, a get of every claimed key says what the map says.
+-- A get of every claimed key says what the map says, whether or not the store needs recovery.
 abbrev pub LookupsAgree : (M : Machine) → Point → Type 0
 LookupsAgree M p =
-    claimedAtEnd (p .needsRecovery) ≡ true → (key : ℕ) → claimed key ≡ true
-    → (said : Said) → M .Says (p .array) key said → said ≡ mapSays (p .map key)
+    (key : ℕ) → claimed key ≡ true → (said : Said) → M .Says (p .array) key said → said ≡ mapSays (p .map key)
 
 -- The claim about a whole run: each get of a claimed key within it, and the lookups at its end, agree with the map.
 abbrev pub AgreesWithMap : (M : Machine) → Point → List (M .Call) → Type 0
