@@ -1,10 +1,11 @@
 // Power cuts for real. A child process makes calls of the index and of the month board on an index in a
 // memory-mapped file and notes each call before it begins and after it was answered. The parent kills it at
-// a random moment, maps the file again, mends, and checks every key, the listing block by block and the
-// lines of a year against the answered calls; the call in flight may have happened or not. After a merge
-// that was cut, the directory must be that of the whole merge, or the old one. Built with -DFAULT=NAME it
-// runs the twin with that fault in the place of the library, and must find pages lost or invented, or an
-// index that cannot be mended.
+// a random moment and maps the file again. It checks every key and the lines of a year against the answered
+// calls, mends, and checks them again, and the listing block by block; the call in flight has happened only
+// if all its stores were made, and no answer may change with the mend. After a merge that was cut, the
+// directory must be that of the whole merge, or the old one. Built with -DFAULT=NAME it runs the twin with
+// that fault in the place of the library, and must find pages lost or invented, or an index that cannot be
+// mended.
 //
 //     cuts FILE SEED
 #include "../../bindings/c/month_board.h"
@@ -302,10 +303,17 @@ double now() {
     return t.tv_sec + t.tv_nsec * 1e-9;
 }
 
+// Lookups, and where they differ from the table: pages lost, invented, and printed years with other lines.
+struct Lookups {
+    long made = 0, lost = 0, invented = 0, other_lines = 0;
+    long wrong() const { return lost + invented; }
+};
+
 struct Counts {
     int kills = 0, in_call = 0, inside = 0, mends = 0, inside_board = 0, inside_merge = 0, finished = 0, undone = 0;
-    long answered = 0, by_board = 0, checked = 0, lost = 0, invented = 0, other_stores = 0, unmendable = 0;
-    long other_lines = 0, other_directories = 0, other_listings = 0;
+    long answered = 0, by_board = 0, other_stores = 0, unmendable = 0;
+    long other_directories = 0, other_listings = 0, changed_answers = 0, unmended_lookups = 0;
+    Lookups before_mend, after_mend;
 
     bool reached() const {
         return kills >= wanted_kills && inside >= wanted_inside && inside_board >= wanted_by_board &&
@@ -313,12 +321,20 @@ struct Counts {
     }
 
     // What a user would notice, and all that differs.
-    long harm() const { return lost + invented + unmendable; }
-    long differences() const { return harm() + other_stores + other_lines + other_directories + other_listings; }
+    long harm() const { return before_mend.wrong() + after_mend.wrong() + unmendable; }
+    long differences() const {
+        return harm() + before_mend.other_lines + after_mend.other_lines + other_stores + other_directories +
+               other_listings + changed_answers;
+    }
 };
 
-// Whether the file holds what some number of the call's stores leave; says whether it is some but not all.
-bool is_prefix(const Words &before, const word *file, const Call &c, bool &inside) {
+// Whether the file holds what some number of the call's stores leave, whether that is some but not all, and whether it
+// is all.
+struct Prefix {
+    bool holds, inside, whole;
+};
+
+Prefix prefix_of(const Words &before, const word *file, const Call &c) {
     auto stores = stores_of(before, c);
     Words words = before;
     std::size_t wrong = 0;
@@ -330,8 +346,8 @@ bool is_prefix(const Words &before, const word *file, const Call &c, bool &insid
         words[at] = value;
         wrong += words[at] != file[at];
     }
-    inside = wrong == 0 && 0 < made && made < stores.size();
-    return wrong == 0;
+    bool holds = wrong == 0, whole = holds && made == stores.size();
+    return {holds, holds && 0 < made && !whole, whole};
 }
 
 void record(Table &table, const Call &c) {
@@ -371,25 +387,51 @@ Table listed_blocks(const word *file) {
     return found;
 }
 
-// Every key that was ever used, against the table before the call in flight or after it.
-void check(const word *file, const Table &before, const Table &after, const Table &used, Counts &counts) {
+// What lookups say of every key that was ever used, and the lines of the year that a print has written.
+struct Answers {
+    std::map<word, page_index_reply> of;
+    std::string lines;
+};
+
+Answers look_up_all(const word *file, const Table &used) {
+    Answers answers;
     for (const auto &[key, unused] : used) {
         (void)unused;
-        page_index_reply got = look_up(file, key);
-        auto says = [&](const Table &table) {
-            auto at = table.find(key);
-            if (at == table.end()) return got.code == PAGE_INDEX_ABSENT;
-            return got.code == PAGE_INDEX_DONE && got.value == at->second;
-        };
-        counts.checked++;
-        if (says(before) || says(after)) continue;
-        (before.count(key) ? counts.lost : counts.invented)++;
+        answers.of[key] = look_up(file, key);
     }
-    Table found = listed_blocks(file);
-    counts.other_listings += found != before && found != after;
     page_index_reply got = month_board_print(file, size, year, lines, sizeof lines);
-    std::string text(reinterpret_cast<char *>(lines), got.value);
-    counts.other_lines += got.code != PAGE_INDEX_DONE || (text != lines_of(before) && text != lines_of(after));
+    answers.lines = got.code == PAGE_INDEX_DONE ? std::string(reinterpret_cast<char *>(lines), got.value) : "refused";
+    return answers;
+}
+
+bool says(const page_index_reply &got, const Table &table, word key) {
+    auto at = table.find(key);
+    if (at == table.end()) return got.code == PAGE_INDEX_ABSENT;
+    return got.code == PAGE_INDEX_DONE && got.value == at->second;
+}
+
+// The tables of which lookups may say one or the other.
+struct Either {
+    const Table &one, &other;
+};
+
+void check(const Answers &answers, const Either &tables, Lookups &lookups) {
+    for (const auto &[key, got] : answers.of) {
+        lookups.made++;
+        if (says(got, tables.one, key) || says(got, tables.other, key)) continue;
+        (tables.one.count(key) ? lookups.lost : lookups.invented)++;
+    }
+    lookups.other_lines += answers.lines != lines_of(tables.one) && answers.lines != lines_of(tables.other);
+}
+
+// How many answers differ.
+long changed(const Answers &x, const Answers &y) {
+    long count = x.lines != y.lines;
+    for (const auto &[key, got] : x.of) {
+        const page_index_reply &other = y.of.at(key);
+        count += got.code != other.code || got.value != other.value;
+    }
+    return count;
 }
 
 // Which call has begun some time before the kill: the first where calls are short, else mostly one that splits.
@@ -441,7 +483,7 @@ page_index_reply mend_merge(const Words &before, word *file, const Call &c, Coun
     return mended;
 }
 
-// Looks at the file that a kill has left, mends it, and checks it.
+// Looks at the file that a kill has left, checks it, mends it, and checks it again.
 void examine(word *file, const Scene &scene, const std::vector<Call> &calls, const Progress &progress, Counts &counts) {
     Words before = scene.image;
     Table told = scene.table, used = scene.table;
@@ -450,22 +492,31 @@ void examine(word *file, const Scene &scene, const std::vector<Call> &calls, con
         make(before.data(), calls[i]);
         record(told, calls[i]);
     }
-    Table either = told;
-    bool in_flight = progress.begun > progress.answered, inside = false;
+    bool in_flight = progress.begun > progress.answered;
     const Call flying = in_flight ? calls[progress.answered] : Call{};
-    record(either, flying);
-    if (in_flight)
-        counts.other_stores += !is_prefix(before, file, flying, inside);
-    else
-        counts.other_stores += std::memcmp(before.data(), file, size * sizeof(word)) != 0;
+    // With no call in flight there is no store, and the file must be as the answered calls have left it.
+    Prefix made = prefix_of(before, file, flying);
+    Table happened = told;
+    record(happened, flying);
+    // Where the stores made are not the defined ones, the call in flight may have happened or not.
+    const Table &table = made.whole ? happened : told;
+    const Either tables{table, made.holds ? table : happened};
+    counts.other_stores += !made.holds;
     counts.in_call += in_flight;
-    counts.inside += inside;
-    counts.inside_board += inside && by_board(flying);
-    bool in_merge = inside && flying.kind == merge;
+    counts.inside += made.inside;
+    counts.inside_board += made.inside && by_board(flying);
+    Answers early = look_up_all(file, used);
+    check(early, tables, counts.before_mend);
+    bool in_merge = made.inside && flying.kind == merge;
     page_index_reply mended = in_merge ? mend_merge(before, file, flying, counts) : page_index_mend(file, size, all);
     counts.mends += mended.stores > 0 && !in_merge;
     counts.unmendable += mended.code != PAGE_INDEX_DONE;
-    check(file, told, either, used, counts);
+    counts.unmended_lookups += mended.stores > 0 ? long(early.of.size()) : 0;
+    Answers late = look_up_all(file, used);
+    check(late, tables, counts.after_mend);
+    counts.changed_answers += changed(early, late);
+    Table listed = listed_blocks(file);
+    counts.other_listings += listed != tables.one && listed != tables.other;
 }
 
 // One child, one kill, one look at the file.
@@ -495,14 +546,22 @@ double measure(const Scene &scene, std::mt19937_64 &random) {
     return 1.3 * (now() - start) / parts;
 }
 
+void print_lookups(const char *when, const Lookups &l) {
+    std::printf("lookups %s the mend %ld: pages lost %ld, invented %ld; printed years that differ %ld\n", when, l.made,
+                l.lost, l.invented, l.other_lines);
+}
+
 void print_counts(const char *seed, const Counts &c) {
     std::printf("seed %s, kills %d, during a call %d, between its first and last store %d, mends that made a store %d\n",
                 seed, c.kills, c.in_call, c.inside, c.mends + c.finished);
-    std::printf("answered calls %ld, lookups %ld: pages lost %ld, invented %ld, not mendable %ld, stores out of order %ld; "
-                "listings block by block that differ %ld\n",
-                c.answered, c.checked, c.lost, c.invented, c.unmendable, c.other_stores, c.other_listings);
-    std::printf("of them by the board: answered calls %ld, kills between the first and last store %d; printed years that differ %ld\n",
-                c.by_board, c.inside_board, c.other_lines);
+    std::printf("answered calls %ld, not mendable %ld, stores out of order %ld\n", c.answered, c.unmendable, c.other_stores);
+    print_lookups("before", c.before_mend);
+    print_lookups("after", c.after_mend);
+    std::printf("of those before it %ld where the mend then made a store; answers that it changed %ld; listings block by "
+                "block that differ after it %ld\n",
+                c.unmended_lookups, c.changed_answers, c.other_listings);
+    std::printf("of them by the board: answered calls %ld, kills between the first and last store %d\n", c.by_board,
+                c.inside_board);
     std::printf("of them in merges: kills between the first and last store %d, finished by the mend %d, left undone %d; "
                 "other directories %ld\n", c.inside_merge, c.finished, c.undone, c.other_directories);
 }

@@ -37,9 +37,10 @@ struct Answer {
     word value;
 };
 
-// Faults that a test can put in: key before value; in a split, entries from left to right, and records cleared
-// in the old segment before the entries name the new one; in a merge, entries from right to left.
-enum class Fault { none, key_first, entries_left_to_right, moved_records_cleared, merged_right_to_left };
+// Faults that a test can put in: key before value; in a split, entries from left to right, records cleared in the
+// old segment before the entries name the new one, and the last entry stored before the records are copied; in a
+// merge, entries from right to left.
+enum class Fault { none, key_first, entries_left_to_right, moved_records_cleared, entry_before_records, merged_right_to_left };
 
 // What a key's bucket and directory bits are taken from: its folded key (document 02, wish 4), or the key as
 // it stands (document 01), which bench/steps compares with it.
@@ -319,6 +320,10 @@ class Index {
             double_directory();
             i = 2 * i;
         }
+        std::size_t half = std::size_t(1) << (g - l - 1);
+        std::size_t start = (std::size_t(1) << g) + (i & ~(2 * half - 1));
+        word left = number | word(l + 1) << 32, right = fresh | word(l + 1) << 32;
+        if constexpr (fault == Fault::entry_before_records) store(start + 2 * half - 1, right);
         const word *from = segment(number);
         std::size_t to = segment(fresh) - w;
         for (unsigned j = 0; j < slots; j++) {
@@ -331,9 +336,6 @@ class Index {
                 store(to + 2 * j, 0);
             }
         }
-        std::size_t half = std::size_t(1) << (g - l - 1);
-        std::size_t start = (std::size_t(1) << g) + (i & ~(2 * half - 1));
-        word left = number | word(l + 1) << 32, right = fresh | word(l + 1) << 32;
         if constexpr (fault == Fault::entries_left_to_right) {
             for (std::size_t e = 0; e < half; e++) store(start + e, left);
             for (std::size_t e = half; e < 2 * half; e++) store(start + e, right);

@@ -1,7 +1,7 @@
 // Family 2 of the test: long runs by document 01's rule, at the depths 2 to 6, with keys that collide.
 // Puts that split and merges are cut at every number of their stores, mended and made again. A run ends
-// with its keys taken away one by one, and a merge behind each. After each step every key is looked up and
-// compared with the plain table. Behind the random steps, and behind each key taken away, the lists of one
+// with its keys taken away one by one, and a merge behind each. After each step, and where a call was cut
+// before each mend, every key is looked up and compared with the plain table. Behind the random steps, and behind each key taken away, the lists of one
 // block, joined, are compared with the full listing.
 mod parts;
 mod table;
@@ -73,15 +73,21 @@ fn setting_for(number: u32) -> Setting {
     }
 }
 
+// A lookup of every key, where a mend may be awaited, and a mend; whether it was cut off.
+fn mend_is_cut(arrays: &mut Arrays, allowance: u32) -> bool {
+    look_up_all(arrays);
+    compare(arrays, Call::Mend(allowance)).reply == CUT_OFF
+}
+
 // Mends until a mend is done, the first two with this allowance.
 fn recover(arrays: &mut Arrays, allowance: u32) {
-    if compare(arrays, Call::Mend(allowance)).reply != CUT_OFF {
+    if !mend_is_cut(arrays, allowance) {
         return;
     }
-    if compare(arrays, Call::Mend(allowance)).reply != CUT_OFF {
+    if !mend_is_cut(arrays, allowance) {
         return;
     }
-    compare(arrays, Call::Mend(ALL_STORES));
+    mend_is_cut(arrays, ALL_STORES);
 }
 
 // The index's and the model's array as saved.
