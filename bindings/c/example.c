@@ -1,7 +1,7 @@
 /*
- * Formats an index of 264 words, puts three pages, gets two and lists them all. Then seventeen pages for
- * sixteen slots take a second segment; the index is listed block by block, and a merge gives the segment
- * back.
+ * Formats an index of 264 words, puts three pages, of which one is cut off at first: lookups need not wait
+ * for the mend, the put made again does. Gets two pages and lists all. Then seventeen pages for sixteen slots
+ * take a second segment; the index is listed block by block, and a merge gives the segment back.
  */
 #include "page_index.h"
 
@@ -37,7 +37,10 @@ int main(void)
     report("format", page_index_format(words, WORDS, 2, 2, ALLOWANCE));
     report("put 7", page_index_put(words, WORDS, 7, 70, ALLOWANCE));
     report("put 8", page_index_put(words, WORDS, 8, 80, ALLOWANCE));
-    report("put 9, no store allowed", page_index_put(words, WORDS, 9, 90, 0));
+    report("put 9, one store allowed", page_index_put(words, WORDS, 9, 90, 1));
+    report("get 9, before the mend", page_index_get(words, WORDS, 9));
+    report("get 7, before the mend", page_index_get(words, WORDS, 7));
+    report("mend", page_index_mend(words, WORDS, ALLOWANCE));
     report("put 9", page_index_put(words, WORDS, 9, 90, ALLOWANCE));
     report("get 8", page_index_get(words, WORDS, 8));
     report("get 10", page_index_get(words, WORDS, 10));
@@ -46,7 +49,6 @@ int main(void)
         printf("key %" PRIu64 ", value %" PRIu64 "\n", list[i], list[i + 1]);
     report("remove 8", page_index_remove(words, WORDS, 8, ALLOWANCE));
     report("get 8", page_index_get(words, WORDS, 8));
-    report("mend", page_index_mend(words, WORDS, ALLOWANCE));
     report("list into no words", page_index_list(words, WORDS, list, 0));
     for (uint64_t i = 0; i < 16; i++)
         page_index_put(words, WORDS, 1 + 16 * i, i, ALLOWANCE);

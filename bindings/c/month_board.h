@@ -6,7 +6,8 @@
  * The functions are in libpage_index.a, beside those of page_index.h. The board's array is formatted
  * by page_index_format and mended by page_index_mend, after a power cut too; page_index_merge with a
  * job's key gives a segment back. What page_index.h says of the library, of the stack (less than 8,192
- * bytes a call) and of power cuts holds for the board.
+ * bytes a call) and of power cuts holds for the board: after a cut read and print are right at once, and
+ * say what they say after the mending; set and remove wait for the mend.
  *
  * What the caller owes, for every call:
  *   - `words` points to `len` words, as in page_index.h.

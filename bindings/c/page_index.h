@@ -17,10 +17,18 @@
  *
  * Power cuts. A call makes its stores one whole word at a time, in a fixed order. If the power goes
  * during a call, the array is as if the call had been given an allowance of just the stores that were
- * made. After a power cut call page_index_mend until it answers PAGE_INDEX_DONE; then every page that
- * was put and acknowledged is found, and the call that was cut off has either happened in full or not
- * at all: the put or the remove of its page, or the merge of its two blocks, which changes no page. A
- * format that was cut off is begun anew. The memory must take the stores in program order.
+ * made; what follows holds after the code PAGE_INDEX_CUT_OFF too. The memory must take the stores in
+ * program order.
+ *   - Lookups are right at once. After a put, a remove, a merge or a mend that was cut off,
+ *     page_index_get finds every page that was put and acknowledged, and says of every key what it says
+ *     after the mending. A put or a remove that was cut off has not happened, unless all its stores were
+ *     made; a merge changes no page.
+ *   - All else waits for the mend: put, remove, merge, list and list block. Call page_index_mend until
+ *     it answers PAGE_INDEX_DONE. While an entry of the directory awaits it, they answer
+ *     PAGE_INDEX_UNMENDED (key 0 comes first) and change nothing. Where they do not, there was nothing
+ *     to mend.
+ *   - A format that was cut off is begun anew. Till it is done, every other call answers
+ *     PAGE_INDEX_NO_STORE, if the format has made a store.
  *
  * Two arrays compared. Of one array and one call, an allowance larger by one changes at most one word of
  * what is left: the word of the one store more. Two puts that differ in the value alone have the same
@@ -93,7 +101,7 @@ struct page_index_reply page_index_format(uint64_t *words, size_t len, uint64_t 
 
 /*
  * Looks a key up. Reads word 0, one word of the directory and at most four buckets of 64 bytes, and
- * writes nothing. Codes: 0 with the value, 255, 1, 2, 3.
+ * writes nothing. It need not wait for a mend. Codes: 0 with the value, 255, 1, 2, 3.
  */
 struct page_index_reply page_index_get(const uint64_t *words, size_t len, uint64_t key);
 
@@ -113,7 +121,8 @@ struct page_index_reply page_index_remove(uint64_t *words, size_t len, uint64_t 
 /*
  * Takes back what a split that was cut off has left in the directory, and finishes a merge that was cut
  * off with its first entry stored; a merge that was cut off before that has left the directory as it was.
- * With nothing to do it makes no store, so it may be called at every start. Codes: 0, 1, 3, 7.
+ * No lookup's answer changes, whether the mend is whole or cut off. With nothing to do it makes no store,
+ * so it may be called at every start. Up to 4,096 stores. Codes: 0, 1, 3, 7.
  */
 struct page_index_reply page_index_mend(uint64_t *words, size_t len, uint32_t allowance);
 

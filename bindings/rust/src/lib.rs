@@ -3,7 +3,15 @@
 //!
 //! Every array and every argument gets an answer; no call touches a word outside the array, allocates
 //! or keeps state. A call makes its stores one word at a time in a fixed order, so that a power cut
-//! leaves the array as an allowance of so many stores would; after one, [`mend`] until it is done.
+//! leaves the array as an allowance of so many stores would.
+//!
+//! After a put, a remove, a merge or a mend that was cut off, by the power or with [`Refusal::CutOff`],
+//! lookups are right at once: [`get`] finds every page that was put and acknowledged, and says of every
+//! key what it says after the mending. [`put`], [`remove`], [`merge`], [`list`] and [`list_block`] wait:
+//! [`mend`] until it is done. While an entry of the directory awaits that, they are refused with
+//! [`Refusal::Unmended`] and change nothing; where they are not, there was nothing to mend. A [`format`]
+//! that was cut off is begun anew.
+//!
 //! [`merge`] joins blocks that hold little, so that later splits can take a segment again. [`list`] lists the
 //! whole index, [`blocks()`] and [`list_block`] one block after the other, with 128 words.
 //! [`board`] keeps the pages of jobs, by year, month and number, in an array of its own.
@@ -28,11 +36,12 @@
 //! assert_eq!(put(&mut words, 7, 70, ALL), Ok(2));
 //! assert_eq!(get(&words, 7), Ok(Some(70)));
 //!
-//! // A put that is allowed one store too few is cut off, and the page keeps its place.
+//! // A put that is allowed one store too few is cut off, and the page keeps its place. Lookups may come before
+//! // the mend, other calls wait for it.
 //! let cut = put(&mut words, 7, 71, 0).unwrap_err();
 //! assert_eq!((cut.refusal, cut.stores), (Refusal::CutOff, 0));
-//! assert_eq!(mend(&mut words, ALL), Ok(0));
 //! assert_eq!(get(&words, 7), Ok(Some(70)));
+//! assert_eq!(mend(&mut words, ALL), Ok(0));
 //!
 //! let mut records = [0u64; 2];
 //! assert_eq!(list(&words, &mut records), Ok(1));
@@ -189,7 +198,7 @@ pub fn format(words: &mut [u64], depth: u64, segments: u64, allowance: u32) -> R
     stores(unsafe { page_index_format(words.as_mut_ptr(), words.len(), depth, segments, allowance) })
 }
 
-/// The value of the key, or `None` where it has none.
+/// The value of the key, or `None` where it has none. It need not wait for a [`mend`].
 pub fn get(words: &[u64], key: u64) -> Result<Option<u64>, Refused> {
     // SAFETY: as in `format`; the call only reads.
     let reply = unsafe { page_index_get(words.as_ptr(), words.len(), key) };
@@ -212,8 +221,9 @@ pub fn remove(words: &mut [u64], key: u64, allowance: u32) -> Result<Option<u32>
 }
 
 /// Takes back what a split that was cut off has left in the directory, finishes a merge that was cut off
-/// with its first entry stored, and answers the number of stores: 0 where there was nothing to do. A merge
-/// that was cut off before that has left the directory as it was.
+/// with its first entry stored, and answers the number of stores: 0 where there was nothing to do, at most
+/// 4,096. A merge that was cut off before that has left the directory as it was. No lookup's answer changes,
+/// whether the mend is whole or cut off.
 pub fn mend(words: &mut [u64], allowance: u32) -> Result<u32, Refused> {
     // SAFETY: as in `format`.
     stores(unsafe { page_index_mend(words.as_mut_ptr(), words.len(), allowance) })

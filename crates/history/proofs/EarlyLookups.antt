@@ -79,7 +79,7 @@ splitRun =
           ∷ due (Put 263 5 74) 7 ∷ due (Mend 0) 0
           ∷ due (Put 263 5 1) 7 ∷ due (Mend 0) 0
           ∷ due (Put 263 6 2) 0 ∷ [];
-      asked = 7 ∷ 23 ∷ 55 ∷ 247 ∷ 263 ∷ [];
+      asked = keys;
     }
 
 -- A block of four entries in a directory of depth 2: state i, whose put of 1030 doubles twice and is refused, and two merges. Sixteen other pages
@@ -90,8 +90,8 @@ fourEntries =
     ++ (Put 1030 1 1000 ∷ Merge 7 1000 ∷ Merge 7 1000 ∷ each (λ i. Put (11 + 16 * i) (100 + i) 2 ∷ []) 16)
 
 -- The put of 267 splits the block in 72 stores of the copy step and four entries, from right to left: cut behind one, two, three and all of them, with
--- mends that are cut before, between and behind their stores. Then the merge, 16 stores in slots and four entries from left to right: cut within the
--- slots, before its first entry, and behind it, with a mend cut within.
+-- mends that are cut before their first store and between their stores. Then the merge, 16 stores in slots and four entries from left to right: cut
+-- within the slots, before its first entry, and behind it, with a mend that is cut between its stores.
 abbrev pub entriesRun : AskedRun
 entriesRun =
     record {
@@ -114,25 +114,30 @@ asked-runs-pass = refl
 
 -- ---- Mending to completion
 
--- Mends to completion behind calls of which the last is cut off: lookups of these keys say the same before and after.
-pub record Mending : Type 0 where
+-- Calls of which the last is cut off, and mends to completion behind it: lookups of the keys say the same before and after.
+pub record MendedCut : Type 0 where
   pub calls : List Call
   pub mends : List Call
-  pub keys : List ℕ
 
-mendingPasses : Mending → Bool
-mendingPasses s = mendsUnseen index lookup (s .keys) (behind (s .calls)) (requests (s .mends))
+cutPasses : MendedCut → Bool
+cutPasses c = mendsUnseen index lookup keys (behind (c .calls)) (requests (c .mends))
 
-pub allMendingsPass : List Mending → Bool
-allMendingsPass [] = true
-allMendingsPass (s ∷ ss) = mendingPasses s && allMendingsPass ss
+pub allCutsPass : List MendedCut → Bool
+allCutsPass [] = true
+allCutsPass (c ∷ cs) = cutPasses c && allCutsPass cs
 
-pub mendings : List Mending
-mendings =
-    record { calls = sixteen ++ (Put 263 5 76 ∷ []); mends = Mend 0 ∷ Mend 1 ∷ []; keys = keys }
-    ∷ record { calls = sixteen ++ (Put 263 5 79 ∷ Remove 263 1 ∷ Merge 7 17 ∷ []); mends = Mend 0 ∷ Mend 0 ∷ Mend 1 ∷ []; keys = keys }
+-- The put of state e, cut between its entries: a mend that is cut and one that is done.
+abbrev pub cutSplit : MendedCut
+cutSplit = record { calls = sixteen ++ (Put 263 5 76 ∷ []); mends = Mend 0 ∷ Mend 1 ∷ [] }
+
+-- It; the merge behind the whole put, once 263 is removed, cut between its entries; and a remove that is cut.
+pub mendedCuts : List MendedCut
+mendedCuts =
+    cutSplit
+    ∷ record { calls = sixteen ++ (Put 263 5 79 ∷ Remove 263 1 ∷ Merge 7 17 ∷ []); mends = Mend 0 ∷ Mend 0 ∷ Mend 1 ∷ [] }
+    ∷ record { calls = Put 7 1 2 ∷ Remove 7 0 ∷ []; mends = Mend 0 ∷ [] }
     ∷ []
 
-pub mendings-pass : allMendingsPass mendings ≡ true
-unfolding computed mendingPasses allMendingsPass mendings empty updated fed isRecovery recoveryAfter claimed next finish mendsBehind saidSame sameAnswers mendsUnseen
-mendings-pass = refl
+pub mended-cuts-pass : allCutsPass mendedCuts ≡ true
+unfolding computed cutPasses allCutsPass mendedCuts empty updated fed isRecovery recoveryAfter claimed next finish mendsBehind saidSame sameAnswers mendsUnseen
+mended-cuts-pass = refl

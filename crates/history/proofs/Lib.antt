@@ -24,6 +24,6 @@ pub mod Merge
 pub mod Calls
 pub mod Theorem
 pub mod Covered
-pub mod Early
+pub mod EarlyCalls
 pub mod Performed
 pub mod Instance

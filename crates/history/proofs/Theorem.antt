@@ -65,7 +65,7 @@ invariant P so =
     }
 
 -- Any call of the index can be made on any array.
-linked : (p : Point) (calls : List Request) → Linked index p calls
+pub linked : (p : Point) (calls : List Request) → Linked index p calls
 unfolding Linked
 linked p [] = Prim.tt
 linked p (r ∷ rs) = (Prim.tt, linked (next index p r) rs)

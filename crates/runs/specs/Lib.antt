@@ -1,4 +1,4 @@
--- The abstract map, a run of calls on a store, and the claim about it.
+-- The abstract map, a run of calls on a store, and the claims about it.
 pub mod Map
 pub mod Run
 pub mod BeforeMending
