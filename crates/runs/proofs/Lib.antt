@@ -2,4 +2,5 @@
 pub mod Runs
 pub mod BeforeMending
 pub mod Samples
+pub mod MendSamples
 pub mod Checked
