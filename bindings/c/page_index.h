@@ -27,7 +27,7 @@
  *     it answers PAGE_INDEX_DONE. While an entry of the directory awaits it, they answer
  *     PAGE_INDEX_UNMENDED (key 0 comes first) and change nothing. Where they do not, there was nothing
  *     to mend.
- *   - A format that was cut off is begun anew. Till it is done, every other call answers
+ *   - A format that was cut off is begun anew. Until it is done, every other call answers
  *     PAGE_INDEX_NO_STORE, if the format has made a store.
  *
  * Two arrays compared. Of one array and one call, an allowance larger by one changes at most one word of

@@ -67,17 +67,18 @@ module _ {m : Map} {g d S : ℕ} {f : ℕ → ℕ} {a : List ℕ} (inv : Inv m g
 abbrev Follows : Option Refusal → Said → Type 0
 Follows t said = (r : Refusal) → t ≡ some r → said ≡ refuse r
 
+refusal-said : (allowance : ℕ) (r : Refusal) (a : List ℕ) → (changed allowance (reply-only (refuse r)) a) .reply ≡ refuse r
+refusal-said allowance r a = (changed-complete allowance (reply-only (refuse r)) a (omega arith)) .reply
+
 plan-follows : (allowance : ℕ) (t : Option Refusal) (p : Plan Said) (a : List ℕ) → Follows t ((changed allowance (tested t p) a) .reply)
-plan-follows allowance t p a r e =
-    rw (e, tested-some r p) ((changed-complete allowance (reply-only (refuse r)) a (omega arith)) .reply)
+plan-follows allowance t p a r e = rw (e, tested-some r p) (refusal-said allowance r a)
 
 writing-follows : (t : Option Refusal) (w : Writing) → Follows t ((behindTests t w) .reply)
 unfolding behindTests
 writing-follows t w r e = rw e refl
 
 put-follows : (allowance : ℕ) (a : List ℕ) (key value : ℕ) → Follows (putTests a key) ((changed allowance (put a key value) a) .reply)
-put-follows allowance a key value r e =
-    rw (put-refused a key value r e) ((changed-complete allowance (reply-only (refuse r)) a (omega arith)) .reply)
+put-follows allowance a key value r e = rw (put-refused a key value r e) (refusal-said allowance r a)
 
 -- ---- The theorem
 
