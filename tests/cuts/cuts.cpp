@@ -1,11 +1,11 @@
 // Power cuts for real. A child process makes calls of the index and of the month board on an index in a
 // memory-mapped file and notes each call before it begins and after it was answered. The parent kills it at
 // a random moment and maps the file again. It checks every key and the lines of a year against the answered
-// calls, mends, and checks them again, and the listing block by block; the call in flight has happened only
-// if all its stores were made, and no answer may change with the mend. After a merge that was cut, the
-// directory must be that of the whole merge, or the old one. Built with -DFAULT=NAME it runs the twin with
-// that fault in the place of the library, and must find pages lost or invented, or an index that cannot be
-// mended.
+// calls, mends, with a mend that is cut off first, and checks them again, and the listing block by block; the
+// call in flight has happened only if all its stores were made, and no answer may change with a mend. After a
+// merge that was cut, the directory must be that of the whole merge, or the old one. Built with -DFAULT=NAME
+// it runs the twin with that fault in the place of the library, and must find pages lost or invented, or an
+// index that cannot be mended.
 //
 //     cuts FILE SEED
 #include "../../bindings/c/month_board.h"
@@ -311,6 +311,7 @@ struct Lookups {
 
 struct Counts {
     int kills = 0, in_call = 0, inside = 0, mends = 0, inside_board = 0, inside_merge = 0, finished = 0, undone = 0;
+    int cut_mends = 0, other_mends = 0;
     long answered = 0, by_board = 0, other_stores = 0, unmendable = 0;
     long other_directories = 0, other_listings = 0, changed_answers = 0, unmended_lookups = 0;
     Lookups before_mend, after_mend;
@@ -324,7 +325,7 @@ struct Counts {
     long harm() const { return before_mend.wrong() + after_mend.wrong() + unmendable; }
     long differences() const {
         return harm() + before_mend.other_lines + after_mend.other_lines + other_stores + other_directories +
-               other_listings + changed_answers;
+               other_listings + other_mends + changed_answers;
     }
 };
 
@@ -483,8 +484,19 @@ page_index_reply mend_merge(const Words &before, word *file, const Call &c, Coun
     return mended;
 }
 
+// Where a mend has something to do, makes one that is cut off at a random store, and looks every key up again.
+void cut_mend(word *file, const Answers &early, const Table &used, std::mt19937_64 &random, Counts &counts) {
+    Words copy(file, file + size);
+    std::uint32_t due = page_index_mend(copy.data(), size, all).stores;
+    if (due == 0) return;
+    counts.cut_mends++;
+    counts.other_mends += page_index_mend(file, size, std::uint32_t(random() % due)).code != PAGE_INDEX_CUT_OFF;
+    counts.changed_answers += changed(early, look_up_all(file, used));
+}
+
 // Looks at the file that a kill has left, checks it, mends it, and checks it again.
-void examine(word *file, const Scene &scene, const std::vector<Call> &calls, const Progress &progress, Counts &counts) {
+void examine(word *file, const Scene &scene, const std::vector<Call> &calls, const Progress &progress,
+             std::mt19937_64 &random, Counts &counts) {
     Words before = scene.image;
     Table told = scene.table, used = scene.table;
     for (const Call &c : calls) used[c.key] = 0;
@@ -507,6 +519,7 @@ void examine(word *file, const Scene &scene, const std::vector<Call> &calls, con
     counts.inside_board += made.inside && by_board(flying);
     Answers early = look_up_all(file, used);
     check(early, tables, counts.before_mend);
+    cut_mend(file, early, used, random, counts);
     bool in_merge = made.inside && flying.kind == merge;
     page_index_reply mended = in_merge ? mend_merge(before, file, flying, counts) : page_index_mend(file, size, all);
     counts.mends += mended.stores > 0 && !in_merge;
@@ -530,7 +543,7 @@ void cut(int fd, const Scene &scene, std::mt19937_64 &random, Progress &progress
     counts.answered += long(progress.answered);
     counts.by_board += std::count_if(calls.begin(), calls.begin() + long(progress.answered), by_board);
     words = map_file(fd);
-    examine(words, scene, calls, progress, counts);
+    examine(words, scene, calls, progress, random, counts);
     munmap(words, size * sizeof(word));
 }
 
@@ -554,15 +567,16 @@ void print_lookups(const char *when, const Lookups &l) {
 void print_counts(const char *seed, const Counts &c) {
     std::printf("seed %s, kills %d, during a call %d, between its first and last store %d, mends that made a store %d\n",
                 seed, c.kills, c.in_call, c.inside, c.mends + c.finished);
-    std::printf("answered calls %ld, not mendable %ld, stores out of order %ld\n", c.answered, c.unmendable, c.other_stores);
+    std::printf("answered calls %ld, not mendable %ld, stores out of order %ld; mends cut off first %d, answered otherwise %d\n",
+                c.answered, c.unmendable, c.other_stores, c.cut_mends, c.other_mends);
     print_lookups("before", c.before_mend);
     print_lookups("after", c.after_mend);
-    std::printf("of those before it %ld where the mend then made a store; answers that it changed %ld; listings block by "
-                "block that differ after it %ld\n",
+    std::printf("of those before it %ld where the mend then made a store; answers that a mend, cut off or whole, changed %ld; "
+                "listings block by block that differ after it %ld\n",
                 c.unmended_lookups, c.changed_answers, c.other_listings);
-    std::printf("of them by the board: answered calls %ld, kills between the first and last store %d\n", c.by_board,
+    std::printf("by the board: answered calls %ld, kills between the first and last store %d\n", c.by_board,
                 c.inside_board);
-    std::printf("of them in merges: kills between the first and last store %d, finished by the mend %d, left undone %d; "
+    std::printf("in merges: kills between the first and last store %d, finished by the mend %d, left undone %d; "
                 "other directories %ld\n", c.inside_merge, c.finished, c.undone, c.other_directories);
 }
 
