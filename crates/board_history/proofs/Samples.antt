@@ -62,8 +62,9 @@ agreeing run held =
 abbrev pub longRun : List BoardCall
 longRun =
     sixteen
-    ++ (sets 1 1 263 5 76 ∷ reads 1 1 263 ∷ reads 1 1 23 ∷ reads 1 13 23 ∷ prints 0 9 ∷ own (Mend 0) ∷ reads 1 1 23 ∷ sets 0 1 263 5 9 ∷ own (Mend 1) ∷ reads 1 1 263 ∷ reads 1 1 23 ∷ sets 1 1 263 6 1000 ∷ reads 1 1 263 ∷ reads 0 1 263
-    ∷ sets 1 13 7 1 9 ∷ removes 1 1 4096 9 ∷ removes 1 1 23 1 ∷ reads 1 1 23 ∷ sets 1 1 39 8 1 ∷ [])
+    ++ (sets 1 1 263 5 76 ∷ reads 1 1 263 ∷ reads 1 1 23 ∷ reads 1 13 23 ∷ prints 0 9 ∷ own (Mend 0) ∷ reads 1 1 23 ∷ sets 0 1 263 5 9
+    ∷ own (Mend 1) ∷ reads 1 1 263 ∷ reads 1 1 23 ∷ sets 1 1 263 6 1000 ∷ reads 1 1 263 ∷ reads 0 1 263 ∷ sets 1 13 7 1 9
+    ∷ removes 1 1 4096 9 ∷ removes 1 1 23 1 ∷ reads 1 1 23 ∷ sets 1 1 39 8 1 ∷ [])
 
 pub sample : Bool
 sample =

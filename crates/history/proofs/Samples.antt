@@ -57,8 +57,9 @@ keys = 0 ∷ 263 ∷ 8 ∷ each (λ i. (7 + 16 * i) ∷ []) 16
 abbrev pub longRun : List Call
 longRun =
     sixteen
-    ++ (Get 7 ∷ Put 263 5 76 ∷ Get 23 ∷ Get 263 ∷ Mend 0 ∷ Get 23 ∷ Format 1 4 100 ∷ Format 2 5 100 ∷ Get 0 ∷ Mend 1 ∷ Get 263 ∷ Get 23 ∷ Put 263 6 1000 ∷ Get 263 ∷ Remove 23 1
-    ∷ Get 23 ∷ Remove 23 1 ∷ Put 0 9 100 ∷ Get 0 ∷ Remove 0 1 ∷ ListCall ∷ ListBlock 0 ∷ ListBlock 1 ∷ ListBlock 2 ∷ Put 7 1 1 ∷ Get 7 ∷ Remove 39 0 ∷ Get 39 ∷ Mend 5 ∷ Get 39 ∷ Format 12 4096 100 ∷ [])
+    ++ (Get 7 ∷ Put 263 5 76 ∷ Get 23 ∷ Get 263 ∷ Mend 0 ∷ Get 23 ∷ Format 1 4 100 ∷ Format 2 5 100 ∷ Get 0 ∷ Mend 1 ∷ Get 263 ∷ Get 23
+    ∷ Put 263 6 1000 ∷ Get 263 ∷ Remove 23 1 ∷ Get 23 ∷ Remove 23 1 ∷ Put 0 9 100 ∷ Get 0 ∷ Remove 0 1 ∷ ListCall ∷ ListBlock 0
+    ∷ ListBlock 1 ∷ ListBlock 2 ∷ Put 7 1 1 ∷ Get 7 ∷ Remove 39 0 ∷ Get 39 ∷ Mend 5 ∷ Get 39 ∷ Format 12 4096 100 ∷ [])
 
 -- Behind the split of 279 segment 0 keeps a stale record of page 23. Page 23 is removed; then a merge that is refused with 15, since 7 and
 -- 279 stand in one slot; one that is cut before its first entry, and mended; one that is cut behind it, and mended by a cut mend and a done
@@ -66,9 +67,9 @@ longRun =
 abbrev pub mergeRun : List Call
 mergeRun =
     sixteen
-    ++ (Put 279 5 1000 ∷ Remove 23 1 ∷ Merge 7 1000 ∷ Remove 7 1 ∷ Merge 39 17 ∷ Get 55 ∷ Mend 0 ∷ Get 55 ∷ Merge 39 17 ∷ Get 55 ∷ Get 39 ∷ Mend 0 ∷ Get 55 ∷ Mend 1 ∷ Get 23 ∷ Get 55
-    ∷ Get 279 ∷ Merge 39 1000 ∷ Merge 0 1000 ∷ Put 7 8 2 ∷ Put 263 6 1000 ∷ Get 23 ∷ Get 263 ∷ ListCall ∷ Remove 263 1 ∷ Merge 39 1000 ∷ Get 39
-    ∷ Get 55 ∷ [])
+    ++ (Put 279 5 1000 ∷ Remove 23 1 ∷ Merge 7 1000 ∷ Remove 7 1 ∷ Merge 39 17 ∷ Get 55 ∷ Mend 0 ∷ Get 55 ∷ Merge 39 17 ∷ Get 55 ∷ Get 39
+    ∷ Mend 0 ∷ Get 55 ∷ Mend 1 ∷ Get 23 ∷ Get 55 ∷ Get 279 ∷ Merge 39 1000 ∷ Merge 0 1000 ∷ Put 7 8 2 ∷ Put 263 6 1000 ∷ Get 23 ∷ Get 263
+    ∷ ListCall ∷ Remove 263 1 ∷ Merge 39 1000 ∷ Get 39 ∷ Get 55 ∷ [])
 
 pub samples : List Sample
 samples =
