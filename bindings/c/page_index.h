@@ -25,8 +25,8 @@
  *     made; a merge changes no page.
  *   - All else waits for the mend: put, remove, merge, list and list block. Call page_index_mend until
  *     it answers PAGE_INDEX_DONE. While an entry of the directory awaits it, they answer
- *     PAGE_INDEX_UNMENDED (key 0 comes first) and change nothing. Where they do not, there was nothing
- *     to mend.
+ *     PAGE_INDEX_UNMENDED, or PAGE_INDEX_NO_KEY for key 0, and change nothing. Where they answer
+ *     otherwise, there was nothing to mend.
  *   - A format that was cut off is begun anew. Until it is done, every other call answers
  *     PAGE_INDEX_NO_STORE, if the format has made a store.
  *
@@ -122,7 +122,7 @@ struct page_index_reply page_index_remove(uint64_t *words, size_t len, uint64_t 
  * Takes back what a split that was cut off has left in the directory, and finishes a merge that was cut
  * off with its first entry stored; a merge that was cut off before that has left the directory as it was.
  * No lookup's answer changes, whether the mend is whole or cut off. With nothing to do it makes no store,
- * so it may be called at every start. Up to 4,096 stores. Codes: 0, 1, 3, 7.
+ * so it may be called at every start. At most 4,096 stores. Codes: 0, 1, 3, 7.
  */
 struct page_index_reply page_index_mend(uint64_t *words, size_t len, uint32_t allowance);
 

@@ -18,7 +18,7 @@ use Rattle.replies.specs.Writing.{behindTests}
 use Rattle.rules.specs.Step.{effect, step, outcomeOf}
 use Rattle.runs.specs.Map.{View, looks, mapSays, fed}
 use Rattle.runs.specs.Run.{Point, start, mayFollow, isRecovery, claimed, next, finish, Linked, CallAgrees}
-use Rattle.runs.proofs.Runs.{Invariant, runs-agree}
+use Rattle.runs.proofs.Runs.{Invariant, runs-agree, all-linked}
 use Rattle.runs.proofs.BeforeMending.{lookups-before-mending}
 use Rattle.history.specs.History.{Formatted}
 use Rattle.history.proofs.Plans.{Good, CallKept, nothing-changed}
@@ -93,9 +93,7 @@ board-kept p good (calls r) may = call-kept p good (r .list) (r .call) may
 -- ---- The runs
 
 linked : (p : Point) (run : List BoardCall) → Linked board p run
-unfolding Linked
-linked p [] = Prim.tt
-linked p (c ∷ cs) = (Prim.tt, linked (next board p c) cs)
+linked = all-linked board (λ a c. Prim.tt)
 
 agreeing : Invariant board Formatted Good (CallAgrees board)
 unfolding step effect next

@@ -3,7 +3,7 @@
 -- Assumes nothing.
 use mathlib.Core.Path.{_≡_, refl, _∙_}
 use mathlib.Core.Bool.{true, false}
-use mathlib.Core.List.{List, [], _∷_}
+use mathlib.Core.List.{List}
 use Prim.Native.Nat.{ℕ}
 use borrow.Author.Tests.{not-true}
 use lib.ListN.{length}
@@ -13,7 +13,7 @@ use Rattle.replies.specs.Replies.{saysDamage}
 use Rattle.rules.specs.Step.{effect, step}
 use Rattle.runs.specs.Map.{empty}
 use Rattle.runs.specs.Run.{Point, start, mayFollow, next, Linked, CallAgrees}
-use Rattle.runs.proofs.Runs.{Invariant, runs-agree, each-call, reached-good}
+use Rattle.runs.proofs.Runs.{Invariant, runs-agree, each-call, reached-good, all-linked}
 use Rattle.runs.proofs.BeforeMending.{lookups-before-mending}
 use Rattle.history.specs.History.{viewOf, Request, index, Formatted, HistoryRule, BeforeMending, CoveredPoint}
 use Rattle.history.specs.Further.{NeverDamage}
@@ -67,9 +67,7 @@ invariant P so =
 
 -- Any call of the index can be made on any array.
 pub linked : (p : Point) (calls : List Request) → Linked index p calls
-unfolding Linked
-linked p [] = Prim.tt
-linked p (r ∷ rs) = (Prim.tt, linked (next index p r) rs)
+linked = all-linked index (λ a r. Prim.tt)
 
 -- With each get that agrees with the map.
 agreeing : Invariant index Formatted Good (CallAgrees index)

@@ -53,6 +53,14 @@ runs-agree M Start Good inv a s calls linked v =
     let run = run-kept M Start Good (CallAgrees M) inv (start a) (inv .at-start a s) calls linked v in
     (run .0, inv .says (finish M (start a) calls) (run .1))
 
+-- ---- Calls one behind the other
+
+-- Where every call can be made on every array, all calls are linked.
+pub all-linked : (M : Machine) → ((a : List ℕ) (c : M .Call) → M .Made a c) → (p : Point) (calls : List (M .Call)) → Linked M p calls
+unfolding Linked
+all-linked M made p [] = Prim.tt
+all-linked M made p (c ∷ cs) = (made (p .array) c, all-linked M made (next M p c) cs)
+
 -- ---- Runs one behind the other
 
 module _ (M : Machine) where
