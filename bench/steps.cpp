@@ -45,7 +45,7 @@ void row(const char *shape, word depth, word segments, word step) {
 }  // namespace
 
 int main() {
-    for (word step : {1, 16, 64, 256, 1024, 4096, 65536, 0}) {
+    for (word step : std::initializer_list<word>{1, 10, 16, 64, 100, 256, 1000, 1024, 4096, 65536, word(1) << 32, 0}) {
         row("small", 6, 64, step);
         row("cabinet", cabinet_depth, cabinet_segments, step);
     }

@@ -9,7 +9,6 @@
 #include <stdio.h>
 
 #define WORDS 264
-#define ALLOWANCE 10000
 
 static uint64_t words[WORDS];
 
@@ -34,32 +33,32 @@ static void list_blocks(void)
 int main(void)
 {
     uint64_t list[6] = {0};
-    report("format", page_index_format(words, WORDS, 2, 2, ALLOWANCE));
-    report("put 7", page_index_put(words, WORDS, 7, 70, ALLOWANCE));
-    report("put 8", page_index_put(words, WORDS, 8, 80, ALLOWANCE));
+    report("format", page_index_format(words, WORDS, 2, 2, PAGE_INDEX_ALL));
+    report("put 7", page_index_put(words, WORDS, 7, 70, PAGE_INDEX_ALL));
+    report("put 8", page_index_put(words, WORDS, 8, 80, PAGE_INDEX_ALL));
     report("put 9, one store allowed", page_index_put(words, WORDS, 9, 90, 1));
     report("get 9, before the mend", page_index_get(words, WORDS, 9));
     report("get 7, before the mend", page_index_get(words, WORDS, 7));
-    report("mend", page_index_mend(words, WORDS, ALLOWANCE));
-    report("put 9", page_index_put(words, WORDS, 9, 90, ALLOWANCE));
+    report("mend", page_index_mend(words, WORDS, PAGE_INDEX_ALL));
+    report("put 9", page_index_put(words, WORDS, 9, 90, PAGE_INDEX_ALL));
     report("get 8", page_index_get(words, WORDS, 8));
     report("get 10", page_index_get(words, WORDS, 10));
     report("list", page_index_list(words, WORDS, list, 6));
     for (int i = 0; i < 6; i += 2)
         printf("key %" PRIu64 ", value %" PRIu64 "\n", list[i], list[i + 1]);
-    report("remove 8", page_index_remove(words, WORDS, 8, ALLOWANCE));
+    report("remove 8", page_index_remove(words, WORDS, 8, PAGE_INDEX_ALL));
     report("get 8", page_index_get(words, WORDS, 8));
     report("list into no words", page_index_list(words, WORDS, list, 0));
     for (uint64_t i = 0; i < 16; i++)
-        page_index_put(words, WORDS, 1 + 16 * i, i, ALLOWANCE);
-    report("put 257, with a split", page_index_put(words, WORDS, 257, 16, ALLOWANCE));
+        page_index_put(words, WORDS, 1 + 16 * i, i, PAGE_INDEX_ALL);
+    report("put 257, with a split", page_index_put(words, WORDS, 257, 16, PAGE_INDEX_ALL));
     list_blocks();
     uint64_t next = 0;
     report("list block at index 2, behind the last", page_index_list_block(words, WORDS, 2, list, 6, &next));
     report("list block into six words", page_index_list_block(words, WORDS, 0, list, 6, &next));
-    report("merge 1, 257 in the way", page_index_merge(words, WORDS, 1, ALLOWANCE));
-    report("remove 257", page_index_remove(words, WORDS, 257, ALLOWANCE));
-    report("merge 1", page_index_merge(words, WORDS, 1, ALLOWANCE));
-    report("merge 1, one block left", page_index_merge(words, WORDS, 1, ALLOWANCE));
+    report("merge 1, 257 in the way", page_index_merge(words, WORDS, 1, PAGE_INDEX_ALL));
+    report("remove 257", page_index_remove(words, WORDS, 257, PAGE_INDEX_ALL));
+    report("merge 1", page_index_merge(words, WORDS, 1, PAGE_INDEX_ALL));
+    report("merge 1, one block left", page_index_merge(words, WORDS, 1, PAGE_INDEX_ALL));
     return 0;
 }

@@ -2,12 +2,16 @@
  * The page index: image numbers (keys) and the places of their scans (values) in an array of
  * 64-bit words that keeps its contents when the power goes.
  *
- * Link with libpage_index.a (`rt staticlib page_index` writes it to target/staticlib). The library
- * needs memcpy and memset from the C library, and nothing else. It uses no heap, keeps no state of its
- * own between calls, and may be used on several arrays from several threads, one call at a time on each
- * array. A call uses less than 8,192 bytes of stack.
+ * Link with libpage_index.a (`rt staticlib page_index` writes it to target/staticlib):
  *
- * What the caller owes, for every call:
+ *     cc -std=c99 -I bindings/c program.c target/staticlib/libpage_index.a -o program
+ *
+ * The library needs memcpy and memset from the C library, and nothing else. It uses no heap, keeps no
+ * state of its own between calls, and may be used on several arrays from several threads, one call at a
+ * time on each array. A call uses less than 8,192 bytes of stack. example.c, beside this file, makes each
+ * call once; mapped_example.c keeps pages in a file, with every code answered.
+ *
+ * WHAT THE CALLER OWES, for every call:
  *   - `words` points to `len` words, aligned to eight bytes, that nobody else writes during the call.
  *     With `len` 0 it may be any pointer but NULL.
  *   - `list` points to `list_len` words that do not overlap the words of the index.
@@ -15,10 +19,53 @@
  * Nothing else: every content of the array and every argument gets an answer. No call reads or writes
  * a word outside the array. Words behind those that the index needs are never touched.
  *
- * Power cuts. A call makes its stores one whole word at a time, in a fixed order. If the power goes
- * during a call, the array is as if the call had been given an allowance of just the stores that were
- * made; what follows holds after the code PAGE_INDEX_CUT_OFF too. The memory must take the stores in
- * program order.
+ * CHOOSING SIZES AND KEYS
+ *
+ * An index of largest directory depth D (2 to 12) with S segments (1 to 2^D) takes 2^(D+1) + 128 * S
+ * words of eight bytes, PAGE_INDEX_WORDS(D, S). For 4 MiB, 524,288 words: D = 12, S = 4,032. A segment has
+ * 64 slots for a page each; every page has sixteen of them to stand in, its window. Where these are taken,
+ * the segment is split in two, by one bit more of the keys. So an index is not filled to the last slot:
+ * running numbers fill some five slots of eight. Of two depths that both allow S the larger one takes keys
+ * that are less even. It costs 2^D words more for each depth up to D, and puts take longer once the
+ * directory has that depth: each reads the whole directory.
+ *
+ * Every number but 0 is a key. Where it goes is taken from the low 4 + D bits of its folded key,
+ * key ^ key / 1024: the low four bits choose the bucket, the others the segment, bit 4 first. Keys are
+ * folded, not hashed: no other bits count. With D = 12 keys that agree in bits 0 to 25 share their sixteen
+ * slots for good, and the seventeenth of them is refused with 5. So number pages so that the low bits
+ * change: running numbers are best. Pages that an index of 4 MiB takes, with keys in steps (the step, twice
+ * the step and so on), until a put is refused for the first time, and with which code:
+ *
+ *     step 1      162,815   6      step 1,000   100,961   5      step 2^32         16   5
+ *     step 10      52,996   5      step 1,024   148,415   6      random keys   81,648   5
+ *     step 16      34,752   6      step 65,536   16,384   5
+ *     step 100     13,140   5
+ *
+ * 5, too deep, is about the one key: its window is full of pages that share all D directory bits, and no
+ * room elsewhere helps it. Other keys may still be put. Give such pages other numbers (running ones, say,
+ * that you keep beside the image numbers), or remove one that shares the window, or enter everything into
+ * an index with a larger D. 6, no segment, is about the index: it is full where this key goes. Remove pages
+ * and merge until nothing merges (page_index_merge), which gives segments back; or enter everything into an
+ * index with more segments. To enter it anew: list it, keep the list elsewhere, format, put each record.
+ * After 5 and 6 no page has changed, and nothing has to be mended.
+ *
+ * AT START
+ *
+ *   1. Pass the whole memory, with the same `len` at each start. Compute nothing from word 0.
+ *   2. If the memory is new, format it. It is new if its file was made just now, or if word 0 is 0: a
+ *      format stores 0 there first and the mark last, so that one which was cut off is begun anew.
+ *   3. Else mend it, with PAGE_INDEX_ALL. At PAGE_INDEX_DONE it is ready.
+ *   4. At any other code stop, and have somebody look at it (tools/page-index). Do not format.
+ *      PAGE_INDEX_NO_STORE does not mean that nothing is there: it is also the answer to a damaged word 0
+ *      and to a `len` that is too short. 'Mend; if that says 1, format' has wiped a full index whose length
+ *      was passed 1,024 words short. Format empties an index, whatever it held.
+ * Lookups need not wait for the mend (below).
+ *
+ * POWER CUTS
+ *
+ * A call makes its stores one whole word at a time, in a fixed order. If the power goes during a call, the
+ * array is as if the call had been given an allowance of just the stores that were made; what follows
+ * holds after the code PAGE_INDEX_CUT_OFF too. The memory must take the stores in program order.
  *   - Lookups are right at once. After a put, a remove, a merge or a mend that was cut off,
  *     page_index_get finds every page that was put and acknowledged, and says of every key what it says
  *     after the mending. A put or a remove that was cut off has not happened, unless all its stores were
@@ -30,19 +77,52 @@
  *   - A format that was cut off is begun anew. Until it is done, every other call answers
  *     PAGE_INDEX_NO_STORE, if the format has made a store.
  *
- * Two arrays compared. Of one array and one call, an allowance larger by one changes at most one word of
- * what is left: the word of the one store more. Two puts that differ in the value alone have the same
- * code and the same number of stores, and what they leave differs at most in the value word of the key's
- * slot; not at all where the put is refused, or cut off before it stores the value.
+ * FILES AND POWER
  *
- * Keys. Every number but 0 is a key. Where it goes is taken from the low 4 + `depth` bits of its folded
- * key, key ^ key / 1024; the array holds the key itself.
+ * An index may stand in a file that is mapped (mmap with MAP_SHARED; a mapping is aligned). What was
+ * stored is then in the file also if the process is killed at any instruction: the next one starts as
+ * above, and no page that was acknowledged is lost. One process at a time: take a lock (flock) first, and
+ * let nobody shorten the file while it is mapped.
  *
- * A store with the old mark. Before keys were folded, bits 32 to 63 of word 0 were 0x50414745 (now
- * 0x50414746), and pages stood where this library does not look. Every call but format answers such a
- * store with PAGE_INDEX_NO_STORE and changes no word of it. It is entered anew: list it with the library
- * that made it and keep the records elsewhere, format the array, put every record, and give up the list
- * when each put was answered PAGE_INDEX_DONE. Format empties a store: what was not listed is lost.
+ * That the power may go is another matter. It is survived by memory that takes the stores in program order
+ * and keeps them: the cabinet's, memory with a battery. A file on a disk is not such memory. The system
+ * writes its pages of 4,096 bytes back in any order, at any time, in the middle of a call too; after a power
+ * cut later stores may be there and earlier ones not, and neither lookups nor a mend can be trusted then.
+ * msync(MS_SYNC) between two calls says that all stores made until then are on the disk. It does not keep
+ * pages from being written before it is called, so it gives no order to the stores in the middle of a
+ * call, nor to those of the calls since the last msync. The same holds of persistent memory behind a
+ * processor cache whose lines are lost with the power. Against such cuts keep copies: between two calls
+ * write the words to another file, fsync it, and rename it over the last copy.
+ *
+ * ALLOWANCES
+ *
+ * The calls that store take the number of stores that they may make. Pass PAGE_INDEX_ALL: no call needs
+ * more than 9,764. A smaller allowance does what a power cut after so many stores does, so that a program
+ * can be tested without one: the call answers PAGE_INDEX_CUT_OFF where more are due. After that code mend
+ * before anything is changed, then make the call again. Allowances do not cut a long call into short ones:
+ * only a mend goes on where it was cut off, a put begins its split again.
+ *
+ * HOW LARGE A LIST ARRAY
+ *
+ * 128 * S words are always enough for page_index_list, whatever the array holds, S being the segments of
+ * format; so are as many words as the index has. With 128 words, page_index_list_block lists one block
+ * after the other.
+ *
+ * TWO ARRAYS COMPARED
+ *
+ * Of one array and one call, an allowance larger by one changes at most one word of what is left: the word
+ * of the one store more. Two puts that differ in the value alone have the same code and the same number of
+ * stores, and what they leave differs at most in the value word of the key's slot; not at all where the put
+ * is refused, or cut off before it stores the value. The same pages put in another order stand in other
+ * places: compare listings, not bytes (tools/page-index diff).
+ *
+ * A STORE WITH THE OLD MARK
+ *
+ * Before keys were folded, bits 32 to 63 of word 0 were 0x50414745 (now 0x50414746), and pages stood where
+ * this library does not look. Every call but format answers such a store with PAGE_INDEX_NO_STORE and
+ * changes no word of it. It is entered anew: list it with the library that made it and keep the records
+ * elsewhere, format the array, put every record, and give up the list when each put was answered
+ * PAGE_INDEX_DONE. Format empties a store: what was not listed is lost.
  */
 #ifndef PAGE_INDEX_H
 #define PAGE_INDEX_H
@@ -53,6 +133,12 @@
 #ifdef __cplusplus
 extern "C" {
 #endif
+
+/* The words that an index of this shape takes. */
+#define PAGE_INDEX_WORDS(depth, segments) (((size_t)2 << (depth)) + 128 * (size_t)(segments))
+
+/* An allowance that cuts no call off. */
+#define PAGE_INDEX_ALL UINT32_MAX
 
 /* The code of an answer. The board is that of month_board.h. */
 enum page_index_code {

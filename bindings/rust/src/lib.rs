@@ -5,32 +5,9 @@
 //! or keeps state. A call makes its stores one word at a time in a fixed order, so that a power cut
 //! leaves the array as an allowance of so many stores would.
 //!
-//! After a put, a remove, a merge or a mend that was cut off, by the power or with [`Refusal::CutOff`],
-//! lookups are right at once: [`get`] finds every page that was put and acknowledged, and says of every
-//! key what it says after the mending. [`put`], [`remove`], [`merge`], [`list`] and [`list_block`] wait:
-//! [`mend`] until it is done. While an entry of the directory awaits that, they are refused with
-//! [`Refusal::Unmended`] and change nothing; where they are not, there was nothing to mend. A [`format`]
-//! that was cut off is begun anew.
-//!
-//! [`merge`] joins blocks that hold little, so that later splits can take a segment again. [`list`] lists the
-//! whole index, [`blocks()`] and [`list_block`] one block after the other, with 128 words.
-//! [`board`] keeps the pages of jobs, by year, month and number, in an array of its own.
-//!
-//! Of one array and one call, an allowance larger by one changes at most one word of what is left: the word
-//! of the one store more. Two puts that differ in the value alone have the same answer, and what they leave
-//! differs at most in the value word of the key's slot; not at all where the put is refused, or cut off before
-//! it stores the value.
-//!
-//! Every number but 0 is a key. Where it goes is taken from the low bits of its folded key,
-//! `key ^ key / 1024`; the array holds the key itself. A store of before keys were folded has the mark
-//! 0x50414745 in the upper half of word 0, in place of 0x50414746: every call but [`format`] refuses it with
-//! [`Refusal::NoStore`] and changes nothing. It is entered anew: listed by the library that made it,
-//! formatted, and every record put again. [`format`] empties a store: what was not listed is lost.
-//!
 //! ```
-//! use page_index::{blocks, format, get, list, mend, merge, put, remove, Refusal};
+//! use page_index::{blocks, format, get, list, mend, merge, put, remove, Refusal, ALL};
 //!
-//! const ALL: u32 = u32::MAX;
 //! let mut words = [0u64; 264];
 //! assert_eq!(format(&mut words, 2, 2, ALL), Ok(67));
 //! assert_eq!(put(&mut words, 7, 70, ALL), Ok(2));
@@ -61,14 +38,127 @@
 //! assert_eq!(merge(&mut words, 7, ALL).unwrap_err().refusal, Refusal::NoBuddy);
 //! assert_eq!(get(&words, 247), Ok(Some(15)));
 //! ```
+//!
+//! [`merge`] joins blocks that hold little, so that later splits can take a segment again. [`list`] lists the
+//! whole index, [`blocks()`] and [`list_block`] one block after the other, with 128 words. [`mapped`] keeps the
+//! words in a file, and [`board`] the pages of jobs, by year, month and number, in an array of its own.
+//!
+//! # Choosing sizes and keys
+//!
+//! An index of largest directory depth D (2 to 12) with S segments (1 to 2^D) takes 2^(D+1) + 128 × S words,
+//! [`words_for`]. For 4 MiB, 524,288 words: D = 12, S = 4,032. A segment has 64 slots for a page each; every
+//! page has sixteen of them to stand in, and where these are taken the segment is split in two, by one bit more
+//! of the keys. Of two depths that both allow S the larger one takes keys that are less even; it costs words, and
+//! puts take longer once the directory has that depth, since each reads the whole directory.
+//!
+//! Every number but 0 is a key. Where it goes is taken from the low 4 + D bits of its folded key,
+//! `key ^ key / 1024`: the low four choose the bucket, the others the segment, bit 4 first. Keys are folded, not
+//! hashed: no other bits count. With D = 12 keys that agree in bits 0 to 25 share their sixteen slots for good. So
+//! number pages so that the low bits change. Pages that an index of 4 MiB takes, with keys in steps, until a put is
+//! refused for the first time:
+//!
+//! | Keys | Pages | Refused with |
+//! |---|---|---|
+//! | running numbers | 162,815 | 6 |
+//! | in steps of 10 | 52,996 | 5 |
+//! | in steps of 16 | 34,752 | 6 |
+//! | in steps of 100 | 13,140 | 5 |
+//! | in steps of 1,000 | 100,961 | 5 |
+//! | in steps of 1,024 | 148,415 | 6 |
+//! | in steps of 65,536 | 16,384 | 5 |
+//! | in steps of 2^32 | 16 | 5 |
+//! | random | 81,648 | 5 |
+//!
+//! 5, [`Refusal::TooDeep`], is about the one key: its slots hold pages that share all D directory bits, and no room
+//! elsewhere helps. Give such pages other numbers, or remove one of those that share the slots, or enter everything
+//! into an index with a larger D. 6, [`Refusal::NoSegment`], is about the index: remove pages and [`merge`] until
+//! nothing merges, or enter everything into an index with more segments. To enter it anew: [`list`] it, keep the
+//! list elsewhere, [`format`], [`put`] each record. After both no page has changed, and nothing has to be mended.
+//!
+//! # At start
+//!
+//! Format only memory that is new: a file made just now, or word 0 is 0 (a format stores the mark last, so that one
+//! which was cut off is begun anew). Mend all other memory, and stop where that is refused.
+//! [`Refusal::NoStore`] also means a damaged word 0, or that the slice is too short: a program that formats there
+//! wipes a full index. Pass the whole memory, with the same length at each start, and compute nothing from word 0.
+//!
+//! ```
+//! use page_index::{format, get, mend, put, words_for, Refusal, Refused, ALL};
+//!
+//! fn start(words: &mut [u64]) -> Result<u32, Refused> {
+//!     if words[0] == 0 { format(words, 6, 10, ALL) } else { mend(words, ALL) }
+//! }
+//!
+//! let mut words = vec![0; words_for(6, 10)];
+//! start(&mut words)?;
+//! put(&mut words, 7, 70, ALL)?;
+//! start(&mut words)?;
+//! assert_eq!(get(&words, 7), Ok(Some(70)));
+//! // Too short a slice is no new memory.
+//! assert_eq!(start(&mut words[..1000]).unwrap_err().refusal, Refusal::NoStore);
+//! # Ok::<(), Refused>(())
+//! ```
+//!
+//! # Power cuts
+//!
+//! After a put, a remove, a merge or a mend that was cut off, by the power or with [`Refusal::CutOff`],
+//! lookups are right at once: [`get`] finds every page that was put and acknowledged, and says of every
+//! key what it says after the mending. [`put`], [`remove`], [`merge`], [`list`] and [`list_block`] wait:
+//! [`mend`] until it is done. While an entry of the directory awaits that, they are refused with
+//! [`Refusal::Unmended`] and change nothing; where they are not, there was nothing to mend. A [`format`]
+//! that was cut off is begun anew.
+//!
+//! # Files and power
+//!
+//! A mapped file ([`mapped`], `examples/mapped.rs`) survives a process that is killed at any instruction. A power
+//! cut is survived by memory that takes the stores in program order and keeps them, as the cabinet's does. A file on
+//! a disk is not such memory: the system writes its pages back in any order, in the middle of a call too, and after a
+//! power cut later stores may be there and earlier ones not. `msync` between two calls says that all stores until then
+//! are on the disk; it gives no order to the stores in the middle of a call, nor to those since the last `msync`. Against such
+//! cuts keep copies, made between two calls.
+//!
+//! # Allowances
+//!
+//! The calls that store take the number of stores that they may make. Pass [`ALL`]. A smaller allowance does what a
+//! power cut after so many stores does, for tests: the call is refused with [`Refusal::CutOff`] where more are due.
+//! [`mend`] then, before anything is changed, and make the call again.
+//!
+//! # How large a list array
+//!
+//! 128 × S words are always enough for [`list`], whatever the array holds; so are as many as the index has. Or list it
+//! block by block in 128: [`blocks()`].
+//!
+//! # Two arrays compared
+//!
+//! Of one array and one call, an allowance larger by one changes at most one word of what is left: the word
+//! of the one store more. Two puts that differ in the value alone have the same answer, and what they leave
+//! differs at most in the value word of the key's slot; not at all where the put is refused, or cut off before
+//! it stores the value.
+//!
+//! # A store with the old mark
+//!
+//! A store of before keys were folded has the mark 0x50414745 in the upper half of word 0, in place of 0x50414746:
+//! every call but [`format`] refuses it with [`Refusal::NoStore`] and changes nothing. It is entered anew: listed by
+//! the library that made it, formatted, and every record put again. [`format`] empties a store: what was not listed
+//! is lost.
 #![warn(missing_docs)]
 
 mod blocks;
 pub mod board;
+#[cfg(all(unix, target_pointer_width = "64"))]
+pub mod mapped;
 
 pub use blocks::{blocks, Block, Blocks, BLOCK_WORDS};
 use std::error::Error;
 use std::fmt;
+
+/// An allowance that cuts no call off.
+pub const ALL: u32 = u32::MAX;
+
+/// The words that an index of largest directory depth `depth` with `segments` segments takes.
+pub const fn words_for(depth: u32, segments: usize) -> usize {
+    (2 << depth) + 128 * segments
+}
 
 /// The replies that say no, with their numbers. Bad year, month and number are given by the board alone.
 #[derive(Clone, Copy, Debug, PartialEq, Eq, Hash)]

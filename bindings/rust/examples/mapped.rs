@@ -1,0 +1,114 @@
+//! Pages kept in a mapped file of 4 MiB, as `bindings/c/mapped_example.c` does it: starts as the crate's
+//! documentation says; then a line `key value` of standard input puts a page, and `key` alone removes it. The key is
+//! printed when that is done. What is refused is said on standard error.
+//!
+//!     mapped FILE
+use page_index::mapped::MappedFileMut;
+use page_index::{blocks, format, mend, merge, put, remove, words_for, Refusal, Refused, ALL};
+use std::error::Error;
+use std::io::{stdin, stdout, Write};
+use std::process::ExitCode;
+
+const DEPTH: u32 = 12;
+const SEGMENTS: usize = 4032;
+
+/// The start: memory whose word 0 is 0 is new, and formatted; all other is mended, and a refusal ends the program.
+fn start(words: &mut [u64]) -> Result<(), Refused> {
+    if words[0] == 0 {
+        format(words, DEPTH.into(), SEGMENTS as u64, ALL)?;
+        eprintln!("formatted");
+    } else {
+        eprintln!("mended: {} stores", mend(words, ALL)?);
+    }
+    Ok(())
+}
+
+/// Merges until nothing merges, and answers how many segments came free.
+fn merge_all(words: &mut [u64]) -> usize {
+    let mut merged = 0;
+    loop {
+        let more = (0..1u64 << DEPTH).filter(|i| merge(words, 16 * i + 1, ALL).is_ok()).count();
+        if more == 0 {
+            eprintln!("merged: {merged} segments came free");
+            return merged;
+        }
+        merged += more;
+    }
+}
+
+/// A put, or a remove where there is no value; whether the page was there.
+fn change(words: &mut [u64], key: u64, value: Option<u64>) -> Result<bool, Refused> {
+    match value {
+        Some(value) => put(words, key, value, ALL).map(|_| true),
+        None => remove(words, key, ALL).map(|stores| stores.is_some()),
+    }
+}
+
+/// The same, with what a refusal asks for: behind 4 and 7 a mend, behind 6 merges, and the call once more.
+fn change_surely(words: &mut [u64], key: u64, value: Option<u64>) -> Result<bool, Refused> {
+    let mut changed = change(words, key, value);
+    if matches!(changed, Err(Refused { refusal: Refusal::Unmended | Refusal::CutOff, .. })) {
+        mend(words, ALL)?;
+        changed = change(words, key, value);
+    }
+    if matches!(changed, Err(Refused { refusal: Refusal::NoSegment, .. })) && merge_all(words) > 0 {
+        changed = change(words, key, value);
+    }
+    changed
+}
+
+/// The key of a line, and its value where it has one.
+fn call_of(line: &str) -> Option<(u64, Option<u64>)> {
+    let number = |field: &str| field.bytes().all(|b| b.is_ascii_digit()).then(|| field.parse().ok()).flatten();
+    match *line.split_ascii_whitespace().collect::<Vec<_>>() {
+        [key] => Some((number(key)?, None)),
+        [key, value] => Some((number(key)?, Some(number(value)?))),
+        _ => None,
+    }
+}
+
+/// Makes the call of a line, and says how it ended. A damaged index ends the program.
+fn run_line(words: &mut [u64], number: usize, line: &str) -> Result<(), Refused> {
+    let Some((key, value)) = call_of(line) else {
+        eprintln!("line {number}: neither `key value` nor `key`");
+        return Ok(());
+    };
+    match change_surely(words, key, value) {
+        Ok(true) => println!("{key}"),
+        Ok(false) => eprintln!("line {number}: absent"),
+        Err(damaged @ Refused { refusal: Refusal::NoStore | Refusal::Broken, .. }) => return Err(damaged),
+        Err(refused) => eprintln!("line {number}: {refused}"),
+    }
+    Ok(())
+}
+
+fn run(path: &str) -> Result<(), Box<dyn Error>> {
+    // SAFETY: the lock keeps away every program that locks the file too, as the examples in C and Python do.
+    let mut words = unsafe { MappedFileMut::open_or_create(path, words_for(DEPTH, SEGMENTS)) }?;
+    start(&mut words)?;
+    for (line, number) in stdin().lines().zip(1..) {
+        run_line(&mut words, number, &line?)?;
+        // From here on the caller may count on it.
+        stdout().flush()?;
+    }
+    let mut pages = 0;
+    for block in blocks(&words) {
+        pages += block?.records().count();
+    }
+    println!("{pages} pages");
+    Ok(())
+}
+
+fn main() -> ExitCode {
+    let Some(path) = std::env::args().nth(1) else {
+        eprintln!("usage: mapped FILE");
+        return ExitCode::FAILURE;
+    };
+    match run(&path) {
+        Ok(()) => ExitCode::SUCCESS,
+        Err(error) => {
+            eprintln!("{path}: {error}");
+            ExitCode::FAILURE
+        }
+    }
+}
