@@ -1,0 +1,176 @@
+//! What the tool reads by itself against the calls of the library, on whole, cut and damaged arrays.
+use crate::find::Found;
+use crate::reading::{Damage, Shape, State};
+use page_index::{format, get, list, mend, merge, put, remove, words_for, Refusal, ALL};
+
+/// Random numbers (xorshift64*), the same at every run.
+struct Random(u64);
+
+impl Random {
+    fn next(&mut self) -> u64 {
+        self.0 ^= self.0 >> 12;
+        self.0 ^= self.0 << 25;
+        self.0 ^= self.0 >> 27;
+        self.0.wrapping_mul(0x2545_f491_4f6c_dd1d) >> 8
+    }
+
+    fn below(&mut self, limit: u64) -> u64 {
+        self.next() % limit
+    }
+
+    /// A key of few, so that windows fill and segments split; at times any.
+    fn key(&mut self) -> u64 {
+        match self.below(20) {
+            0 => self.next(),
+            1 => 1 + self.below(1 << 20) * 1024,
+            _ => (12 + self.below(6)) % 16 + 16 * (1 + self.below(64)),
+        }
+    }
+}
+
+/// How often each kind of array came.
+#[derive(Debug, Default)]
+struct Seen {
+    whole: usize,
+    unmended: usize,
+    broken: usize,
+    no_store: usize,
+    found: usize,
+    absent: usize,
+    get_broken: usize,
+    stale: usize,
+}
+
+/// An array that a run leaves whose last call was cut off.
+fn run(random: &mut Random) -> Vec<u64> {
+    let depth = 2 + random.below(4);
+    let segments = 1 + random.below(1 << depth);
+    let mut words = vec![random.next(); words_for(depth as u32, segments as usize) + random.below(3) as usize];
+    format(&mut words, depth, segments, ALL).unwrap();
+    for _ in 0..random.below(400) {
+        let (key, value) = (random.key(), random.next());
+        match random.below(8) {
+            0 => drop(remove(&mut words, key, ALL)),
+            1 => drop(merge(&mut words, key, ALL)),
+            _ => drop(put(&mut words, key, value, ALL)),
+        }
+    }
+    cut_off(&mut words, random);
+    words
+}
+
+/// Makes a split or a merge that is cut off among its last stores, those of entries; where few tries find one.
+fn cut_off(words: &mut [u64], random: &mut Random) {
+    for _ in 0..20 {
+        let (key, merges) = (random.key(), random.below(4) == 0);
+        let call =
+            |words: &mut [u64], allowance| if merges { merge(words, key, allowance) } else { put(words, key, 1, allowance) };
+        let stores = call(&mut words.to_vec(), ALL).unwrap_or(0);
+        if stores > 8 {
+            let _ = call(words, stores - random.below(8) as u32);
+            return;
+        }
+    }
+}
+
+/// Spoils word 0, entries or slots, or takes the last words away.
+fn damage(words: &mut Vec<u64>, random: &mut Random) {
+    match random.below(8) {
+        0 => words[0] ^= 1 << random.below(64),
+        1 => words.truncate(random.below(words.len() as u64) as usize),
+        2 => words[0] = 0,
+        3 => words[0] ^= 3 << 32,
+        4 => words[0] = words[0] >> 32 << 32 | random.below(6) << 16 | random.below(5) << 8 | random.below(5),
+        _ => (),
+    }
+    for _ in 0..random.below(3) {
+        if let Some(entry) = words.get_mut(1 + random.below(15) as usize) {
+            *entry = random.below(6) | random.below(6) << 32;
+        }
+    }
+}
+
+/// The live records that the tool sees, in the order of its blocks and slots.
+fn live(words: &[u64]) -> Result<Vec<u64>, Damage> {
+    let shape = Shape::read(words)?;
+    let blocks = shape.blocks(words)?;
+    let slots = blocks.iter().flat_map(|block| shape.slots(words, block));
+    Ok(slots.filter(|slot| slot.state == State::Live).flat_map(|slot| [slot.key, slot.value]).collect())
+}
+
+fn listed(words: &[u64]) -> Result<Vec<u64>, Refusal> {
+    let mut records = vec![0; words.len()];
+    let count = list(words, &mut records).map_err(|refused| refused.refusal)?;
+    records.truncate(2 * count);
+    Ok(records)
+}
+
+/// What the tool says of the array, as the listing would.
+fn check_listing(words: &[u64], seen: &mut Seen) {
+    let shown = live(words);
+    let unequal =
+        Shape::read(words).and_then(|shape| shape.blocks(words)).map(|blocks| blocks.iter().map(|block| block.unequal).sum());
+    match listed(words) {
+        Ok(records) => {
+            assert_eq!((shown, unequal), (Ok(records), Ok(0usize)));
+            seen.whole += 1;
+        }
+        Err(Refusal::Unmended) => {
+            let mut mended = words.to_vec();
+            assert_eq!(unequal, Ok(mend(&mut mended, ALL).unwrap() as usize));
+            assert_eq!(shown.unwrap(), listed(&mended).unwrap());
+            seen.unmended += 1;
+        }
+        Err(Refusal::Broken) => {
+            assert!(matches!(shown, Err(Damage::EntryOutOfRange { .. } | Damage::LeaderNotAligned { .. })));
+            seen.broken += 1;
+        }
+        Err(refusal) => {
+            assert_eq!(refusal, Refusal::NoStore);
+            assert!(Shape::read(words).is_err());
+            seen.no_store += 1;
+        }
+    }
+}
+
+/// Where the tool finds a key, as a lookup would.
+fn check_lookup(words: &[u64], key: u64, seen: &mut Seen) {
+    let Ok(shape) = Shape::read(words) else {
+        assert_eq!(get(words, key).unwrap_err().refusal, Refusal::NoStore);
+        return;
+    };
+    match (get(words, key), Found::look(words, &shape, key)) {
+        (Ok(value), Ok(found)) => {
+            assert_eq!(found.hit(key).map(|slot| slot.value), value);
+            seen.found += usize::from(value.is_some());
+            seen.absent += usize::from(value.is_none());
+            seen.stale += found.window.iter().filter(|slot| slot.state == State::Stale).count();
+        }
+        (Err(refused), Err(_)) => {
+            assert_eq!(refused.refusal, Refusal::Broken);
+            seen.get_broken += 1;
+        }
+        (got, found) => panic!("get says {got:?}, and the tool finds the entry: {}", found.is_ok()),
+    }
+}
+
+#[test]
+fn the_tool_reads_what_the_library_reads() {
+    let mut random = Random(25);
+    let mut seen = Seen::default();
+    for round in 0..20_000 {
+        let mut words = run(&mut random);
+        if round % 2 == 1 {
+            damage(&mut words, &mut random);
+        }
+        check_listing(&words, &mut seen);
+        for _ in 0..40 {
+            check_lookup(&words, random.key(), &mut seen);
+        }
+    }
+    println!("{seen:?}");
+    let Seen { whole, unmended, broken, no_store, found, absent, get_broken, stale } = seen;
+    for often in [whole, unmended, broken, no_store, found, absent, get_broken, stale] {
+        assert!(often >= 100, "each kind of array and answer must come");
+    }
+}
