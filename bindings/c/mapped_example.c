@@ -67,6 +67,9 @@ static uint64_t *map_file(const char *path)
     /* A file made just now has no bytes, nor has one whose maker was killed here. The new bytes are 0. */
     if (file.st_size == 0 && ftruncate(fd, BYTES) != 0) stop(path, strerror(errno));
     if (file.st_size != 0 && file.st_size != BYTES) stop(path, "not of the length of this index");
+    /* The disk may be full: that is said here, since a store into memory cannot say it. */
+    int full = posix_fallocate(fd, 0, BYTES);
+    if (full != 0) stop(path, strerror(full));
     void *at = mmap(NULL, BYTES, PROT_READ | PROT_WRITE, MAP_SHARED, fd, 0);
     if (at == MAP_FAILED) stop(path, strerror(errno));
     return at;

@@ -26,15 +26,15 @@
  * 64 slots for a page each; every page has sixteen of them to stand in, its window. Where these are taken,
  * the segment is split in two, by one bit more of the keys. So an index is not filled to the last slot:
  * running numbers fill some five slots of eight. Of two depths that both allow S the larger one takes keys
- * that are less even. It costs 2^D words more for each depth up to D, and puts take longer once the
- * directory has that depth: each reads the whole directory.
+ * that are less even. Its directory takes twice the words, and puts take longer once it has become so deep:
+ * each reads the whole directory.
  *
- * Every number but 0 is a key. Where it goes is taken from the low 4 + D bits of its folded key,
- * key ^ key / 1024: the low four bits choose the bucket, the others the segment, bit 4 first. Keys are
- * folded, not hashed: no other bits count. With D = 12 keys that agree in bits 0 to 25 share their sixteen
- * slots for good, and the seventeenth of them is refused with 5. So number pages so that the low bits
- * change: running numbers are best. Pages that an index of 4 MiB takes, with keys in steps (the step, twice
- * the step and so on), until a put is refused for the first time, and with which code:
+ * Every number but 0 is a key, and every number a value. Where a key goes is taken from the low 4 + D bits
+ * of its folded key, key ^ key / 1024: the low four bits choose the bucket, the others the segment, bit 4
+ * first. Keys are folded, not hashed: no other bits count. With D = 12, keys that agree in bits 0 to 25
+ * share their sixteen slots for good, and the seventeenth of them is refused with 5. So number pages so that
+ * the low bits change: running numbers are good. Pages that an index of 4 MiB takes, with keys in steps (the
+ * step, twice the step and so on), until a put is refused for the first time, and with which code:
  *
  *     step 1      162,815   6      step 1,000   100,961   5      step 2^32         16   5
  *     step 10      52,996   5      step 1,024   148,415   6      random keys   81,648   5
@@ -57,8 +57,14 @@
  *   3. Else mend it, with PAGE_INDEX_ALL. At PAGE_INDEX_DONE it is ready.
  *   4. At any other code stop, and have somebody look at it (tools/page-index). Do not format.
  *      PAGE_INDEX_NO_STORE does not mean that nothing is there: it is also the answer to a damaged word 0
- *      and to a `len` that is too short. 'Mend; if that says 1, format' has wiped a full index whose length
- *      was passed 1,024 words short. Format empties an index, whatever it held.
+ *      and to a `len` that is too short. 'Mend; if that says 1, format' has wiped 1,000 pages, when the
+ *      length was passed 1,024 words short. Format empties an index, whatever it held.
+ *
+ *     reply = words[0] == 0 ? page_index_format(words, len, 12, 4032, PAGE_INDEX_ALL)
+ *                           : page_index_mend(words, len, PAGE_INDEX_ALL);
+ *     if (reply.code != PAGE_INDEX_DONE) stop();
+ *
+ * From then on a page is kept once its put has answered PAGE_INDEX_DONE; nothing has to be done at the end.
  * Lookups need not wait for the mend (below).
  *
  * POWER CUTS
@@ -81,8 +87,10 @@
  *
  * An index may stand in a file that is mapped (mmap with MAP_SHARED; a mapping is aligned). What was
  * stored is then in the file also if the process is killed at any instruction: the next one starts as
- * above, and no page that was acknowledged is lost. One process at a time: take a lock (flock) first, and
- * let nobody shorten the file while it is mapped.
+ * above, and no page that was acknowledged is lost. A file made just now gets its length (ftruncate: new
+ * bytes are 0) and its space on the disk (posix_fallocate: a store cannot say that the disk is full). A
+ * file of another length than the one it got: stop. One process at a time: take a lock (flock) first.
+ * Nobody may shorten the file while it is mapped.
  *
  * That the power may go is another matter. It is survived by memory that takes the stores in program order
  * and keeps them: the cabinet's, memory with a battery. A file on a disk is not such memory. The system
@@ -104,9 +112,9 @@
  *
  * HOW LARGE A LIST ARRAY
  *
- * 128 * S words are always enough for page_index_list, whatever the array holds, S being the segments of
- * format; so are as many words as the index has. With 128 words, page_index_list_block lists one block
- * after the other.
+ * 128 * S words are always enough for page_index_list, S being the segments of format; so are as many words
+ * as the index has. Where a list array is too short, the answer is PAGE_INDEX_SHORT_LIST and nothing is
+ * written. With 128 words, page_index_list_block lists one block after the other.
  *
  * TWO ARRAYS COMPARED
  *

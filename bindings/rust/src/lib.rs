@@ -48,10 +48,10 @@
 //! An index of largest directory depth D (2 to 12) with S segments (1 to 2^D) takes 2^(D+1) + 128 × S words,
 //! [`words_for`]. For 4 MiB, 524,288 words: D = 12, S = 4,032. A segment has 64 slots for a page each; every
 //! page has sixteen of them to stand in, and where these are taken the segment is split in two, by one bit more
-//! of the keys. Of two depths that both allow S the larger one takes keys that are less even; it costs words, and
-//! puts take longer once the directory has that depth, since each reads the whole directory.
+//! of the keys. Of two depths that both allow S the larger one takes keys that are less even; its directory takes
+//! twice the words, and puts take longer once it has become so deep: each reads the whole directory.
 //!
-//! Every number but 0 is a key. Where it goes is taken from the low 4 + D bits of its folded key,
+//! Every number but 0 is a key, and every number a value. Where a key goes is taken from the low 4 + D bits of its folded key,
 //! `key ^ key / 1024`: the low four choose the bucket, the others the segment, bit 4 first. Keys are folded, not
 //! hashed: no other bits count. With D = 12 keys that agree in bits 0 to 25 share their sixteen slots for good. So
 //! number pages so that the low bits change. Pages that an index of 4 MiB takes, with keys in steps, until a put is
@@ -125,8 +125,8 @@
 //!
 //! # How large a list array
 //!
-//! 128 × S words are always enough for [`list`], whatever the array holds; so are as many as the index has. Or list it
-//! block by block in 128: [`blocks()`].
+//! 128 × S words are always enough for [`list`], S being the segments of [`format`]; so are as many as the index has. Or
+//! list it block by block in 128: [`blocks()`].
 //!
 //! # Two arrays compared
 //!
@@ -145,7 +145,7 @@
 
 mod blocks;
 pub mod board;
-#[cfg(all(unix, target_pointer_width = "64"))]
+#[cfg(all(target_os = "linux", target_pointer_width = "64"))]
 pub mod mapped;
 
 pub use blocks::{blocks, Block, Blocks, BLOCK_WORDS};

@@ -36,6 +36,7 @@ const MAP_SHARED: c_int = 1;
 extern "C" {
     fn mmap(at: *mut c_void, bytes: usize, may: c_int, flags: c_int, file: c_int, offset: i64) -> *mut c_void;
     fn munmap(at: *mut c_void, bytes: usize) -> c_int;
+    fn posix_fallocate(file: c_int, offset: i64, bytes: i64) -> c_int;
 }
 
 /// The words of a file, and the file, whose lock ends with it.
@@ -137,6 +138,12 @@ impl MappedFileMut {
                 let said = format!("it has {length} bytes, and an index of this shape {bytes}");
                 return Err(Error::new(ErrorKind::InvalidData, said));
             }
+        }
+        // The disk may be full: that is said here, since a store into memory cannot say it.
+        // SAFETY: the call reads and writes no memory of ours.
+        match unsafe { posix_fallocate(file.as_raw_fd(), 0, bytes as i64) } {
+            0 => (),
+            error => return Err(Error::from_raw_os_error(error)),
         }
         Mapping::new(file, PROT_READ | PROT_WRITE).map(MappedFileMut)
     }
