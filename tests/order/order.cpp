@@ -55,19 +55,23 @@ struct Case {
     bool differs = false;
 };
 
-// The stores of the plan that change the word they go to; the others cannot be seen.
-std::vector<Change> visible(const Case &c, std::size_t &due) {
+// The stores of the plan: those that change the word they go to, and those of what stands there already, which
+// cannot be seen.
+struct Due {
+    std::vector<Change> visible, unseen;
+};
+
+Due stores_due(const Case &c) {
     Words words = c.before;
     std::vector<Change> stores;
     c.defined(words.data(), Log{&stores});
-    due = stores.size();
     Words now = c.before;
-    std::vector<Change> seen;
+    Due due;
     for (auto [at, value] : stores) {
-        if (now[at] != value) seen.emplace_back(at, value);
+        (now[at] != value ? due.visible : due.unseen).emplace_back(at, value);
         now[at] = value;
     }
-    return seen;
+    return due;
 }
 
 // Runs the call one instruction at a time. `merged` counts instructions that change more than one word.
@@ -104,14 +108,15 @@ std::vector<Change> stepped(const Case &c, word *shared, long &instructions, int
 }
 
 bool passes(const Case &c, word *shared) {
-    std::size_t due = 0;
     long instructions = 0;
     int merged = 0;
-    std::vector<Change> expected = visible(c, due);
+    const auto &[expected, unseen] = stores_due(c);
     std::vector<Change> seen = stepped(c, shared, instructions, merged);
     bool same = seen == expected;
     std::printf("%-40s stores due %3zu, seen %3zu, instructions %5ld, that change two words %d: %s\n", c.name.c_str(),
-                due, seen.size(), instructions, merged, same && merged == 0 ? "in order" : "NOT IN ORDER");
+                expected.size() + unseen.size(), seen.size(), instructions, merged, same && merged == 0 ? "in order" : "NOT IN ORDER");
+    for (auto [at, value] : unseen)
+        std::printf("  not to be seen: the store of %#lx to word %zu, which holds that already\n", value, at);
     for (std::size_t i = 0; !same && !c.differs && i < expected.size() && i < seen.size(); i++) {
         if (seen[i] == expected[i]) continue;
         std::printf("  first difference at change %zu: word %zu := %#lx, due word %zu := %#lx\n", i, seen[i].first,
