@@ -43,11 +43,11 @@
  *
  * 5, too deep, is about the one key: its window is full of pages that share all D directory bits, and no
  * room elsewhere helps it. Other keys may still be put. Give such pages other numbers (running ones, say,
- * that you keep beside the image numbers), or remove one that shares the window, or enter everything into
- * an index with a larger D. 6, no segment, is about the index: it is full where this key goes. Remove pages
- * and merge until nothing merges (page_index_merge), which gives segments back; or enter everything into an
- * index with more segments. To enter it anew: list it, keep the list elsewhere, format, put each record.
- * After 5 and 6 no page has changed, and nothing has to be mended.
+ * that you keep beside the image numbers), or remove a page of that window (tools/page-index find shows
+ * it), or enter everything into an index with a larger D. 6, no segment, is about the index: it is full
+ * where this key goes. Remove pages and merge until nothing merges (page_index_merge), which gives segments
+ * back; or enter everything into an index with more segments. To enter it anew: list it, keep the list
+ * elsewhere, format, put each record. After 5 and 6 no page has changed, and nothing has to be mended.
  *
  * AT START
  *
