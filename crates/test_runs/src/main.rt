@@ -1,8 +1,9 @@
 // Family 2 of the test: long runs by document 01's rule, at the depths 2 to 6, with keys that collide.
 // Puts that split and merges are cut at every number of their stores, mended and made again. A run ends
 // with its keys taken away one by one, and a merge behind each. After each step, and where a call was cut
-// before each mend, every key is looked up and compared with the plain table. Behind the random steps, and behind each key taken away, the lists of one
-// block, joined, are compared with the full listing.
+// before each mend, every key is looked up and compared with the plain table. Behind the random steps, and
+// behind one key of eight that are taken away, the lists of one block, joined, are compared with the full
+// listing.
 mod parts;
 mod table;
 
