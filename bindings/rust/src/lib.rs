@@ -364,9 +364,8 @@ pub struct ListedBlock {
 pub fn list_block(words: &[u64], index: u64, list: &mut [u64]) -> Result<ListedBlock, Refused> {
     let mut next = 0;
     // SAFETY: as in `list`; `next` is a word of its own.
-    let reply = unsafe {
-        page_index_list_block(words.as_ptr(), words.len(), index, list.as_mut_ptr(), list.len(), &mut next)
-    };
+    let reply =
+        unsafe { page_index_list_block(words.as_ptr(), words.len(), index, list.as_mut_ptr(), list.len(), &mut next) };
     let records = answered(reply)?.map_or(0, |reply| reply.value as usize);
     // The library names 0 behind the last block.
     Ok(ListedBlock { records, next: (next != 0).then_some(next) })

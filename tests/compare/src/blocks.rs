@@ -138,7 +138,8 @@ pub fn compare_joined(words: &[u64], counts: &mut Counts) {
             counts.blocks += leaders.len() as u64;
         }
         Err(code) => {
-            let codes: Vec<u32> = answers.into_iter().map(|block| block.map_or_else(|no| no.refusal as u32, |_| DONE)).collect();
+            let codes: Vec<u32> =
+                answers.into_iter().map(|block| block.map_or_else(|no| no.refusal as u32, |_| DONE)).collect();
             assert_eq!(codes, [code], "the blocks joined are not refused as the walk is");
             counts.refused += 1;
         }
@@ -157,7 +158,8 @@ pub fn report(counts: &Counts) -> bool {
     println!("list arrays: of just the words needed {exact}, of one word less {one_short}");
     println!("no leader: within a block {within}, at the directory's end or behind it {behind}");
     println!("listings joined: {joined}, of {blocks} blocks; refused {refused}");
-    let came = |(wanted, damaged): (&[u32], bool)| wanted.iter().all(|&code| counts.codes.contains_key(&(damaged, code)));
+    let came =
+        |(wanted, damaged): (&[u32], bool)| wanted.iter().all(|&code| counts.codes.contains_key(&(damaged, code)));
     [*next, *last, *exact, *one_short, *full, *within, *behind, *joined, *refused].iter().all(|&count| count > 0)
         && blocks > joined
         && WANTED.into_iter().zip([false, true]).all(came)

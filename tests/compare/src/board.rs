@@ -311,7 +311,10 @@ pub fn compare_board(r: &mut Random, rounds: u64, counts: &mut BoardCounts) {
 pub fn report(counts: &BoardCounts) -> bool {
     let board = &counts.board;
     println!("board calls {}", board.said());
-    println!("prints beside an entry out of range {}, calls of the index between {}", counts.beside_damage, counts.index.calls);
+    println!(
+        "prints beside an entry out of range {}, calls of the index between {}",
+        counts.beside_damage, counts.index.calls
+    );
     for ((call, code), count) in &board.codes {
         println!("board {call} {code}: {count}");
     }

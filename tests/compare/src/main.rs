@@ -164,7 +164,11 @@ fn key(r: &mut Random) -> u64 {
 
 /// A value: any number, often one of a few, so that a page gets the value that it has, or 0.
 fn value(r: &mut Random) -> u64 {
-    if r.chance(4) { r.below(3) } else { r.next() }
+    if r.chance(4) {
+        r.below(3)
+    } else {
+        r.next()
+    }
 }
 
 fn allowance(r: &mut Random) -> u32 {
@@ -342,7 +346,8 @@ fn random_words(r: &mut Random) -> Vec<u64> {
     let d = r.below(14);
     let s = r.below(20);
     let size = r.below(3000);
-    let mut words: Vec<u64> = (0..size).map(|_| if r.chance(3) { r.next() } else { r.below(20) | r.below(5) << 32 }).collect();
+    let mut words: Vec<u64> =
+        (0..size).map(|_| if r.chance(3) { r.next() } else { r.below(20) | r.below(5) << 32 }).collect();
     if let Some(first) = words.first_mut() {
         if !r.chance(10) {
             let likely = model::first_word(r.below(d + 2), d, s);

@@ -127,7 +127,11 @@ fn walk(words: &[u64], shape: Shape) -> Result<Vec<Range<usize>>, u32> {
         at += width;
     }
     let tidy = blocks.iter().all(|b| b.clone().all(|i| words[size + i] == words[size + b.start]));
-    if tidy { Ok(blocks) } else { Err(4) }
+    if tidy {
+        Ok(blocks)
+    } else {
+        Err(4)
+    }
 }
 
 fn slot_address(shape: Shape, segment: u64, slot: usize) -> usize {
@@ -315,7 +319,11 @@ pub fn halves(words: &[u64], key: u64) -> Result<[Half; 2], u32> {
     }
     let live = |half: &Half, slot: usize| is_live(words[slot_address(shape, half.segment, slot)], &half.bits);
     let both = (0..64).any(|slot| pair.iter().all(|half| live(half, slot)));
-    if both { Err(15) } else { Ok(pair) }
+    if both {
+        Err(15)
+    } else {
+        Ok(pair)
+    }
 }
 
 fn merge(draft: &mut Draft, key: u64) -> u32 {

@@ -63,8 +63,13 @@ fn run(random: &mut Random) -> Vec<u64> {
 fn cut_off(words: &mut [u64], random: &mut Random) {
     for _ in 0..20 {
         let (key, merges) = (random.key(), random.below(4) == 0);
-        let call =
-            |words: &mut [u64], allowance| if merges { merge(words, key, allowance) } else { put(words, key, 1, allowance) };
+        let call = |words: &mut [u64], allowance| {
+            if merges {
+                merge(words, key, allowance)
+            } else {
+                put(words, key, 1, allowance)
+            }
+        };
         let stores = call(&mut words.to_vec(), ALL).unwrap_or(0);
         if stores > 8 {
             let _ = call(words, stores - random.below(8) as u32);
@@ -108,8 +113,9 @@ fn listed(words: &[u64]) -> Result<Vec<u64>, Refusal> {
 /// What the tool says of the array, as the listing would.
 fn check_listing(words: &[u64], seen: &mut Seen) {
     let shown = live(words);
-    let unequal =
-        Shape::read(words).and_then(|shape| shape.blocks(words)).map(|blocks| blocks.iter().map(|block| block.unequal).sum());
+    let unequal = Shape::read(words)
+        .and_then(|shape| shape.blocks(words))
+        .map(|blocks| blocks.iter().map(|block| block.unequal).sum());
     match listed(words) {
         Ok(records) => {
             assert_eq!((shown, unequal), (Ok(records), Ok(0usize)));

@@ -47,7 +47,8 @@ fn open_to_format(path: &str, depth: u64, segments: u64, force: bool) -> Result<
 
 pub fn format(out: &mut dyn Write, path: &str, (depth, segments): (u64, u64), force: bool, allowance: u32) -> Ended {
     // Of no words the library refuses a bad shape with 8, and every other with 9: no file is made for a bad one.
-    let shape = page_index::format(&mut [], depth, segments, 0).err().filter(|refused| refused.refusal == Refusal::BadShape);
+    let shape =
+        page_index::format(&mut [], depth, segments, 0).err().filter(|refused| refused.refusal == Refusal::BadShape);
     if let Some(refused) = shape {
         return Err(Failure::refused(path, &[], refused));
     }

@@ -55,7 +55,14 @@ pub fn by_record(out: &mut dyn Write, a: &Side, b: &Side) -> Ended {
                 only_a += 1;
             }
             Some(others) if values(others) != values(slots) => {
-                writeln!(out, "another value: key {key}, {} in {}, {} in {}", said(slots), a.path, said(others), b.path)?;
+                writeln!(
+                    out,
+                    "another value: key {key}, {} in {}, {} in {}",
+                    said(slots),
+                    a.path,
+                    said(others),
+                    b.path
+                )?;
                 other += 1;
             }
             Some(others) => {
@@ -71,7 +78,11 @@ pub fn by_record(out: &mut dyn Write, a: &Side, b: &Side) -> Ended {
     if only_a + only_b + other == 0 {
         return same_records(out, a, b, same, moved);
     }
-    writeln!(out, "{only_a} only in {}, {only_b} only in {}, {other} with another value, {same} the same", a.path, b.path)?;
+    writeln!(
+        out,
+        "{only_a} only in {}, {only_b} only in {}, {other} with another value, {same} the same",
+        a.path, b.path
+    )?;
     Ok(Outcome::No)
 }
 

@@ -86,7 +86,9 @@ impl fmt::Display for Failure {
         match self {
             Failure::Usage(said) => write!(f, "{said}; page-index --help says more"),
             Failure::Output(error) => write!(f, "cannot write: {error}"),
-            Failure::File(said) | Failure::Damaged(said) | Failure::Unmended(said) | Failure::Refused(said) => f.write_str(said),
+            Failure::File(said) | Failure::Damaged(said) | Failure::Unmended(said) | Failure::Refused(said) => {
+                f.write_str(said)
+            }
         }
     }
 }
@@ -104,7 +106,9 @@ fn reason(refusal: Refusal) -> &'static str {
         Refusal::NoKey => "no key: 0 is none",
         Refusal::Broken => "broken: the directory is damaged",
         Refusal::Unmended => "unmended: a call was cut off, mend first",
-        Refusal::TooDeep => "too deep: the pages in this key's slots share every directory bit; other keys may find room",
+        Refusal::TooDeep => {
+            "too deep: the pages in this key's slots share every directory bit; other keys may find room"
+        }
         Refusal::NoSegment => "no segment: the index is full here; remove pages and merge, or take more segments",
         Refusal::CutOff => "cut off: more stores were due than allowed; mend, then call again",
         Refusal::BadShape => "bad shape: D is 2 to 12, S is 1 to 2^D",

@@ -53,11 +53,21 @@ pub fn find(out: &mut dyn Write, path: &str, words: &[u64], key: u64) -> Ended {
     }
     let index = directory_bits(key, shape.depth);
     writeln!(out, "key             {key} ({key:#x}), folded {} ({:#x})", folded(key), folded(key))?;
-    writeln!(out, "directory bits  {}, the first {} of the folded key from bit 4 on", bits(index, shape.depth), shape.depth)?;
+    writeln!(
+        out,
+        "directory bits  {}, the first {} of the folded key from bit 4 on",
+        bits(index, shape.depth),
+        shape.depth
+    )?;
     writeln!(out, "bucket          {}, by bits 0 to 3", bucket(key))?;
     let found = Found::look(words, &shape, key).map_err(|damage| Failure::damaged(path, damage))?;
     writeln!(out, "entry           {} at byte {}: {}", found.index, 8 * shape.entry_word(found.index), found.entry)?;
-    writeln!(out, "segment         {} from byte {} on", found.entry.segment, 8 * shape.segment_word(found.entry.segment))?;
+    writeln!(
+        out,
+        "segment         {} from byte {} on",
+        found.entry.segment,
+        8 * shape.segment_word(found.entry.segment)
+    )?;
     writeln!(out, "window          sixteen slots, in the order of the search")?;
     for slot in &found.window {
         writeln!(out, "  slot {:2}  byte {:7}  {}", slot.number, 8 * slot.at, said(&found, slot, key))?;

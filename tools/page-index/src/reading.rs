@@ -220,7 +220,9 @@ impl fmt::Display for Damage {
     fn fmt(&self, f: &mut fmt::Formatter<'_>) -> fmt::Result {
         match self {
             Damage::NoWords => write!(f, "no index: the file has not one word of eight bytes"),
-            Damage::NeverFormatted => write!(f, "no index: word 0 is 0, so it was never formatted, or a format was cut off"),
+            Damage::NeverFormatted => {
+                write!(f, "no index: word 0 is 0, so it was never formatted, or a format was cut off")
+            }
             Damage::OldMark => {
                 write!(f, "word 0 has the mark 0x50414745 of before keys were folded: such a store is entered anew")
             }
@@ -232,7 +234,11 @@ impl fmt::Display for Damage {
                 write!(f, "damaged or cut short: word 0 asks for {needs} words, and the file has {has}")
             }
             Damage::EntryOutOfRange { index, at, entry } => {
-                write!(f, "damaged: entry {index} of the directory (byte {}) says {entry}, which is out of range", 8 * at)
+                write!(
+                    f,
+                    "damaged: entry {index} of the directory (byte {}) says {entry}, which is out of range",
+                    8 * at
+                )
             }
             Damage::LeaderNotAligned { index, at, entry } => {
                 write!(

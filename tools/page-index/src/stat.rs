@@ -3,31 +3,21 @@ use crate::calls::Ended;
 use crate::failure::{Failure, Outcome};
 use crate::numbers::counted;
 use crate::reading::{Block, Shape, State, SLOTS};
-use std::io::Write;
+use std::io::{self, Write};
 
 /// The records of an index, counted.
-#[derive(Default)]
 struct Counts {
     live: usize,
     stale: usize,
-    /// How many blocks have 0 to 7 live records, 8 to 15 and so on; the last is for 64.
-    loads: [usize; SLOTS / 8 + 1],
-    least: Option<usize>,
-    most: usize,
+    /// The live records of each block.
+    loads: Vec<usize>,
 }
 
 fn count(words: &[u64], shape: &Shape, blocks: &[Block]) -> Counts {
-    let mut counts = Counts::default();
-    for block in blocks {
-        let of = |state| shape.slots(words, block).filter(|slot| slot.state == state).count();
-        let live = of(State::Live);
-        counts.live += live;
-        counts.stale += of(State::Stale);
-        counts.loads[live / 8] += 1;
-        counts.least = Some(counts.least.map_or(live, |least| least.min(live)));
-        counts.most = counts.most.max(live);
-    }
-    counts
+    let of = |block, state| shape.slots(words, block).filter(|slot| slot.state == state).count();
+    let loads: Vec<usize> = blocks.iter().map(|block| of(block, State::Live)).collect();
+    let stale = blocks.iter().map(|block| of(block, State::Stale)).sum();
+    Counts { live: loads.iter().sum(), stale, loads }
 }
 
 /// The keys in segments that no entry names: no lookup reads them.
@@ -41,6 +31,46 @@ fn share(part: usize, whole: usize) -> usize {
     100 * part / whole
 }
 
+/// The least and the largest of some numbers.
+fn range(numbers: impl Iterator<Item = usize> + Clone) -> String {
+    format!("{} to {}", numbers.clone().min().unwrap_or(0), numbers.max().unwrap_or(0))
+}
+
+/// Says how many blocks have 0 to 7 live records, 8 to 15 and so on.
+fn say_loads(out: &mut dyn Write, loads: &[usize]) -> io::Result<()> {
+    for class in 0..=SLOTS / 8 {
+        let records = if class == SLOTS / 8 { "64".to_string() } else { format!("{} to {}", 8 * class, 8 * class + 7) };
+        let blocks = loads.iter().filter(|live| **live / 8 == class).count();
+        if blocks > 0 {
+            writeln!(out, "  {records:>8} live     {}", counted(blocks, "block"))?;
+        }
+    }
+    Ok(())
+}
+
+/// Says the records of the blocks, and how full they are.
+fn say_records(out: &mut dyn Write, words: &[u64], shape: &Shape, blocks: &[Block]) -> io::Result<()> {
+    let Counts { live, stale, loads } = count(words, shape, blocks);
+    let named = shape.named(words);
+    let used = named.iter().filter(|named| **named).count();
+    let (slots, all) = (SLOTS * blocks.len(), SLOTS * shape.segments);
+    let depths = range(blocks.iter().map(|block| block.entry.depth as usize));
+    writeln!(out, "blocks              {}, of local depths {depths}", blocks.len())?;
+    writeln!(out, "segments used       {used}, free {}", shape.segments - used)?;
+    writeln!(out, "live records        {live}")?;
+    writeln!(out, "stale records       {stale}")?;
+    writeln!(out, "empty slots         {}, in the segments of blocks", slots - live - stale)?;
+    writeln!(out, "in free segments    {}, which no lookup reads", counted(leftovers(words, shape, &named), "key"))?;
+    writeln!(
+        out,
+        "load                {} % of the slots of blocks, {} % of all",
+        share(live, slots),
+        share(live, all)
+    )?;
+    writeln!(out, "records of a block  {}", range(loads.iter().copied()))?;
+    say_loads(out, &loads)
+}
+
 pub fn stat(out: &mut dyn Write, path: &str, words: &[u64]) -> Ended {
     let shape = Shape::read(words).map_err(|damage| Failure::damaged(path, damage))?;
     writeln!(out, "largest depth D     {}", shape.max_depth)?;
@@ -48,36 +78,10 @@ pub fn stat(out: &mut dyn Write, path: &str, words: &[u64]) -> Ended {
     writeln!(out, "depth G             {}", shape.depth)?;
     writeln!(out, "words               {}, of {} in the file", shape.words(), words.len())?;
     let blocks = shape.blocks(words).map_err(|damage| Failure::damaged(path, damage))?;
-    let named = shape.named(words);
-    let used = named.iter().filter(|named| **named).count();
-    let counts = count(words, &shape, &blocks);
-    let slots = SLOTS * blocks.len();
-    let shallowest = blocks.iter().map(|block| block.entry.depth).min().unwrap_or(0);
-    writeln!(out, "blocks              {}, of local depths {} to {}", blocks.len(), shallowest, deepest(&blocks))?;
-    writeln!(out, "segments used       {used}, free {}", shape.segments - used)?;
-    writeln!(out, "live records        {}", counts.live)?;
-    writeln!(out, "stale records       {}", counts.stale)?;
-    writeln!(out, "empty slots         {}, in the segments of blocks", slots - counts.live - counts.stale)?;
-    writeln!(out, "in free segments    {}, which no lookup reads", counted(leftovers(words, &shape, &named), "key"))?;
-    writeln!(
-        out,
-        "load                {} % of the slots of blocks, {} % of all",
-        share(counts.live, slots),
-        share(counts.live, SLOTS * shape.segments)
-    )?;
-    writeln!(out, "records of a block  {} to {}", counts.least.unwrap_or(0), counts.most)?;
-    for (class, blocks) in counts.loads.iter().enumerate().filter(|(_, blocks)| **blocks > 0) {
-        let records = if class == SLOTS / 8 { "64".to_string() } else { format!("{} to {}", 8 * class, 8 * class + 7) };
-        writeln!(out, "  {records:>8} live     {}", counted(*blocks, "block"))?;
-    }
-    let unequal: usize = blocks.iter().map(|block| block.unequal).sum();
-    match unequal {
+    say_records(out, words, &shape, &blocks)?;
+    match blocks.iter().map(|block| block.unequal).sum() {
         0 => writeln!(out, "mended              yes")?,
-        _ => writeln!(out, "mended              no: a mend has {} to make", counted(unequal, "store"))?,
+        unequal => writeln!(out, "mended              no: a mend has {} to make", counted(unequal, "store"))?,
     }
     Ok(Outcome::Done)
-}
-
-fn deepest(blocks: &[Block]) -> u32 {
-    blocks.iter().map(|block| block.entry.depth).max().unwrap_or(0)
 }

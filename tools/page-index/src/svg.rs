@@ -78,7 +78,8 @@ fn legend(svg: &mut String, unmended: bool) {
     }
     for (number, (name, colour)) in names.into_iter().enumerate() {
         let x = MARGIN + 70 * number;
-        let _ = writeln!(svg, "<rect x=\"{x}\" y=\"24\" width=\"9\" height=\"9\" fill=\"{colour}\" stroke=\"#718096\"/>");
+        let _ =
+            writeln!(svg, "<rect x=\"{x}\" y=\"24\" width=\"9\" height=\"9\" fill=\"{colour}\" stroke=\"#718096\"/>");
         let _ = writeln!(svg, "<text x=\"{}\" y=\"33\">{name}</text>", x + 14);
     }
 }
@@ -91,7 +92,8 @@ pub fn picture(shape: &Shape, words: &[u64], blocks: &[Block]) -> String {
     let height = top + blocks.len().div_ceil(columns) * ROW;
     let mut svg = String::new();
     let size = format!("width=\"{0}\" height=\"{height}\" viewBox=\"0 0 {0} {height}\"", width + 2 * MARGIN);
-    let _ = writeln!(svg, "<svg xmlns=\"http://www.w3.org/2000/svg\" {size} font-family=\"sans-serif\" font-size=\"10\">");
+    let _ =
+        writeln!(svg, "<svg xmlns=\"http://www.w3.org/2000/svg\" {size} font-family=\"sans-serif\" font-size=\"10\">");
     svg.push_str("<rect width=\"100%\" height=\"100%\" fill=\"white\"/>\n");
     let mut text = |y: usize, said: &str| writeln!(svg, "<text x=\"{MARGIN}\" y=\"{y}\">{said}</text>");
     let _ = text(16, &shape.to_string());
