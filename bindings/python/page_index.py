@@ -24,7 +24,7 @@ from 0 to 2^32 - 1: OverflowError is raised for any other int, TypeError for wha
 Sizes and keys. An index of largest directory depth D (2 to 12) with S segments (1 to 2^D) takes
 2^(D+1) + 128 * S words, words_for. For 4 MiB, 524,288 words: D = 12, S = 4,032. Every number but 0 is a
 key. Where it goes is taken from the low 4 + D bits of its folded key, key ^ key // 1024; no other bits
-count. So number pages so that the low bits change: running numbers are best. page_index.h says how many
+count. So number pages so that the low bits change: running numbers are good. page_index.h says how many
 pages fit, and what to do about TOO_DEEP and NO_SEGMENT.
 
 At start. Format only memory that is new: a file made just now, or word 0 is 0 (a format stores the mark

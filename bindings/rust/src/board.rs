@@ -1,7 +1,7 @@
 //! The month board: the pages scanned for each job, in an array of its own. It is an index whose keys
 //! are year × 65,536 + month × 4,096 + number, so [`format`](crate::format) makes the array,
 //! [`mend`](crate::mend) mends it, and [`merge`](crate::merge) with a job's key gives a segment back. After a
-//! cut [`read`] and [`print`] are right at once, and say what they say after the mending; [`set`] and [`remove`]
+//! cut [`read`] and [`print()`] are right at once, and say what they say after the mending; [`set`] and [`remove`]
 //! wait for the mend.
 //!
 //! Every job gets an answer: ahead of all other refusals come bad year, bad month and bad number, in this

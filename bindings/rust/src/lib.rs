@@ -51,11 +51,11 @@
 //! of the keys. Of two depths that both allow S the larger one takes keys that are less even; its directory takes
 //! twice the words, and puts take longer once it has become so deep: each reads the whole directory.
 //!
-//! Every number but 0 is a key, and every number a value. Where a key goes is taken from the low 4 + D bits of its folded key,
-//! `key ^ key / 1024`: the low four choose the bucket, the others the segment, bit 4 first. Keys are folded, not
-//! hashed: no other bits count. With D = 12 keys that agree in bits 0 to 25 share their sixteen slots for good. So
-//! number pages so that the low bits change. Pages that an index of 4 MiB takes, with keys in steps, until a put is
-//! refused for the first time:
+//! Every number but 0 is a key, and every number a value. Where a key goes is taken from the low 4 + D bits of its
+//! folded key, `key ^ key / 1024`: the low four choose the bucket, the others the segment, bit 4 first. Keys are
+//! folded, not hashed: no other bits count. With D = 12 keys that agree in bits 0 to 25 share their sixteen slots
+//! for good. So number pages so that the low bits change. Pages that an index of 4 MiB takes, with keys in steps,
+//! until a put is refused for the first time:
 //!
 //! | Keys | Pages | Refused with |
 //! |---|---|---|
@@ -73,7 +73,7 @@
 //! elsewhere helps. Give such pages other numbers, or remove one of those that share the slots, or enter everything
 //! into an index with a larger D. 6, [`Refusal::NoSegment`], is about the index: remove pages and [`merge`] until
 //! nothing merges, or enter everything into an index with more segments. To enter it anew: [`list`] it, keep the
-//! list elsewhere, [`format`], [`put`] each record. After both no page has changed, and nothing has to be mended.
+//! list elsewhere, [`format()`], [`put`] each record. After both no page has changed, and nothing has to be mended.
 //!
 //! # At start
 //!
@@ -105,7 +105,7 @@
 //! lookups are right at once: [`get`] finds every page that was put and acknowledged, and says of every
 //! key what it says after the mending. [`put`], [`remove`], [`merge`], [`list`] and [`list_block`] wait:
 //! [`mend`] until it is done. While an entry of the directory awaits that, they are refused with
-//! [`Refusal::Unmended`] and change nothing; where they are not, there was nothing to mend. A [`format`]
+//! [`Refusal::Unmended`] and change nothing; where they are not, there was nothing to mend. A [`format()`]
 //! that was cut off is begun anew.
 //!
 //! # Files and power
@@ -114,8 +114,8 @@
 //! cut is survived by memory that takes the stores in program order and keeps them, as the cabinet's does. A file on
 //! a disk is not such memory: the system writes its pages back in any order, in the middle of a call too, and after a
 //! power cut later stores may be there and earlier ones not. `msync` between two calls says that all stores until then
-//! are on the disk; it gives no order to the stores in the middle of a call, nor to those since the last `msync`. Against such
-//! cuts keep copies, made between two calls.
+//! are on the disk; it gives no order to the stores in the middle of a call, nor to those since the last `msync`.
+//! Against such cuts keep copies, made between two calls.
 //!
 //! # Allowances
 //!
@@ -125,8 +125,8 @@
 //!
 //! # How large a list array
 //!
-//! 128 × S words are always enough for [`list`], S being the segments of [`format`]; so are as many as the index has. Or
-//! list it block by block in 128: [`blocks()`].
+//! 128 × S words are always enough for [`list`], S being the segments of [`format()`]; so are as many as the index has.
+//! Or list it block by block in 128: [`blocks()`].
 //!
 //! # Two arrays compared
 //!
@@ -138,8 +138,8 @@
 //! # A store with the old mark
 //!
 //! A store of before keys were folded has the mark 0x50414745 in the upper half of word 0, in place of 0x50414746:
-//! every call but [`format`] refuses it with [`Refusal::NoStore`] and changes nothing. It is entered anew: listed by
-//! the library that made it, formatted, and every record put again. [`format`] empties a store: what was not listed
+//! every call but [`format()`] refuses it with [`Refusal::NoStore`] and changes nothing. It is entered anew: listed by
+//! the library that made it, formatted, and every record put again. [`format()`] empties a store: what was not listed
 //! is lost.
 #![warn(missing_docs)]
 
