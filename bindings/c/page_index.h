@@ -2,22 +2,23 @@
  * The page index: image numbers (keys) and the places of their scans (values) in an array of
  * 64-bit words that keeps its contents when the power goes.
  *
- * Link with libpage_index.a (`rt staticlib page_index` writes it to target/staticlib):
+ * Link with libpage_index.a (`rt staticlib page_index` writes it to target/staticlib), for x86-64 Linux:
  *
  *     cc -std=c99 -I bindings/c program.c target/staticlib/libpage_index.a -o program
  *
  * The library needs memcpy and memset from the C library, and nothing else. It uses no heap, keeps no
- * state of its own between calls, and may be used on several arrays from several threads, one call at a
- * time on each array. A call uses less than 8,192 bytes of stack. example.c, beside this file, makes each
- * call once; mapped_example.c keeps pages in a file, with every code answered.
+ * state of its own between calls, and a call uses less than 8,192 bytes of stack. example.c, beside this
+ * file, makes each call once; mapped_example.c keeps pages in a file, with every code answered.
  *
  * WHAT THE CALLER OWES, for every call:
  *   - `words` points to `len` words, aligned to eight bytes, that nobody else writes during the call.
- *     With `len` 0 it may be any pointer but NULL.
  *   - `list` points to `list_len` words that do not overlap the words of the index.
- *   - `next` points to one word that overlaps neither of the two, and is not NULL.
+ *   - `next` points to one word that overlaps neither of the two.
+ *   - No pointer is NULL, also where its length is 0.
  * Nothing else: every content of the array and every argument gets an answer. No call reads or writes
- * a word outside the array. Words behind those that the index needs are never touched.
+ * a word outside the array. Words behind those that the index needs are never touched; they may be yours.
+ * Several arrays may be used by several threads. On one array a call that stores (format, put, remove,
+ * mend, merge) is made alone; the others (get, list, list block) may run side by side.
  *
  * CHOOSING SIZES AND KEYS
  *
@@ -25,33 +26,37 @@
  * words of eight bytes, PAGE_INDEX_WORDS(D, S). For 4 MiB, 524,288 words: D = 12, S = 4,032. A segment has
  * 64 slots for a page each; every page has sixteen of them to stand in, its window. Where these are taken,
  * the segment is split in two, by one bit more of the keys. So an index is not filled to the last slot:
- * running numbers fill some five slots of eight. Of two depths that both allow S the larger one takes keys
- * that are less even. Its directory takes twice the words, and puts take longer once it has become so deep:
- * each reads the whole directory.
+ * running numbers fill some five slots of eight. How often a segment can be split is limited by D. So a
+ * larger D takes keys that are spread less evenly; its directory takes twice the words for each depth, and
+ * every put reads as much of it as is in use.
  *
  * Every number but 0 is a key, and every number a value. Where a key goes is taken from the low 4 + D bits
  * of its folded key, key ^ key / 1024: the low four bits choose the bucket, the others the segment, bit 4
- * first. Keys are folded, not hashed: no other bits count. With D = 12, keys that agree in bits 0 to 25
- * share their sixteen slots for good, and the seventeenth of them is refused with 5. So number pages so that
- * the low bits change: running numbers are good. Pages that an index of 4 MiB takes, with keys in steps (the
- * step, twice the step and so on), until a put is refused for the first time, and with which code:
+ * first. Keys are folded, not hashed: of a key itself the low 14 + D bits count, and no others. With D = 12,
+ * keys that agree in bits 0 to 25 share their sixteen slots for good, and the seventeenth of them is refused
+ * with 5. So number pages so that the low bits change: running numbers are good. Pages that an index of 4 MiB
+ * takes, with keys in steps (the step, twice the step and so on), until one put is refused for the first
+ * time, and with which code:
  *
  *     step 1      162,815   6      step 1,000   100,961   5      step 2^32         16   5
  *     step 10      52,996   5      step 1,024   148,415   6      random keys   81,648   5
  *     step 16      34,752   6      step 65,536   16,384   5
  *     step 100     13,140   5
  *
- * 5, too deep, is about the one key: its window is full of pages that share all D directory bits, and no
- * room elsewhere helps it. Other keys may still be put. Give such pages other numbers (running ones, say,
- * that you keep beside the image numbers), or remove a page of that window (tools/page-index find shows
- * it), or enter everything into an index with a larger D. 6, no segment, is about the index: it is full
- * where this key goes. Remove pages and merge until nothing merges (page_index_merge), which gives segments
- * back; or enter everything into an index with more segments. To enter it anew: list it, keep the list
- * elsewhere, format, put each record. After 5 and 6 no page has changed, and nothing has to be mended.
+ * After 5 and 6 no page has changed, nothing has to be mended, and other keys may still be put. A key that
+ * is there is never refused with 5 or 6.
+ *   - 5, too deep: the window is full of pages that share all D directory bits, and no room elsewhere helps.
+ *     Give such pages other numbers (running ones, say, that you keep beside the image numbers), or remove a
+ *     page of that window (tools/page-index find shows it), or move to an index with a larger D.
+ *   - 6, no segment: the window is full, and no segment is free to split into. Remove pages and merge until
+ *     nothing merges, which gives segments back (page_index_merge); or move to an index with more segments.
+ * To move, list the index and put each record into another one, in another array; only then give up the
+ * first. How full it is: pages are the value of a list, segments in use the number of blocks that are listed
+ * one by one.
  *
  * AT START
  *
- *   1. Pass the whole memory, with the same `len` at each start. Compute nothing from word 0.
+ *   1. Pass the whole memory, with the same `len` at each start; do not take it from word 0.
  *   2. If the memory is new, format it. It is new if its file was made just now, or if word 0 is 0: a
  *      format stores 0 there first and the mark last, so that one which was cut off is begun anew.
  *   3. Else mend it, with PAGE_INDEX_ALL. At PAGE_INDEX_DONE it is ready.
@@ -64,43 +69,60 @@
  *                           : page_index_mend(words, len, PAGE_INDEX_ALL);
  *     if (reply.code != PAGE_INDEX_DONE) stop();
  *
- * From then on a page is kept once its put has answered PAGE_INDEX_DONE; nothing has to be done at the end.
- * Lookups need not wait for the mend (below).
+ * From then on a page is kept once its put has answered PAGE_INDEX_DONE. With PAGE_INDEX_ALL, and if nobody
+ * else writes the words, put answers 0, 2, 5 or 6, get and remove 0, 2 or 255, merge 0, 2, 14 or 15, list 0
+ * or 10, list block 0, 10 or 16. Any other code means that somebody else has written, or damage: stop.
  *
- * POWER CUTS
+ * IN A FILE
  *
- * A call makes its stores one whole word at a time, in a fixed order. If the power goes during a call, the
- * array is as if the call had been given an allowance of just the stores that were made; what follows
- * holds after the code PAGE_INDEX_CUT_OFF too. The memory must take the stores in program order.
- *   - Lookups are right at once. After a put, a remove, a merge or a mend that was cut off,
- *     page_index_get finds every page that was put and acknowledged, and says of every key what it says
- *     after the mending. A put or a remove that was cut off has not happened, unless all its stores were
- *     made; a merge changes no page.
- *   - All else waits for the mend: put, remove, merge, list and list block. Call page_index_mend until
- *     it answers PAGE_INDEX_DONE. While an entry of the directory awaits it, they answer
- *     PAGE_INDEX_UNMENDED, or PAGE_INDEX_NO_KEY for key 0, and change nothing. Where they answer
- *     otherwise, there was nothing to mend.
- *   - A format that was cut off is begun anew. Until it is done, every other call answers
- *     PAGE_INDEX_NO_STORE, if the format has made a store.
+ * An index may stand in a file that is mapped. What was stored is then in the file also if the process is
+ * killed at any instruction; nothing has to be done at the end, and no page that was acknowledged is lost.
+ *   1. open(O_RDWR | O_CREAT), and flock(LOCK_EX | LOCK_NB): one process at a time. The lock is held as long
+ *      as the descriptor is open. tools/page-index takes it too, also to look.
+ *   2. fstat. A file of no bytes is new: ftruncate gives it its length, and its bytes are 0. (Its maker may
+ *      have been killed before that.) A file of any other length than its own: stop.
+ *   3. posix_fallocate, at each start: it takes the space on the disk, and changes no byte. A store into
+ *      memory cannot say that the disk is full; it would end the process (SIGBUS), as it does where somebody
+ *      shortens the file while it is mapped.
+ *   4. mmap(PROT_READ | PROT_WRITE, MAP_SHARED): a mapping is aligned. Then start as above.
+ * With -std=c99 these functions want _DEFAULT_SOURCE defined before the first #include.
  *
  * FILES AND POWER
  *
- * An index may stand in a file that is mapped (mmap with MAP_SHARED; a mapping is aligned). What was
- * stored is then in the file also if the process is killed at any instruction: the next one starts as
- * above, and no page that was acknowledged is lost. A file made just now gets its length (ftruncate: new
- * bytes are 0) and its space on the disk (posix_fallocate: a store cannot say that the disk is full). A
- * file of another length than the one it got: stop. One process at a time: take a lock (flock) first.
- * Nobody may shorten the file while it is mapped.
+ * That the power may go is another matter than a killed process. It is survived by memory that takes the
+ * stores in program order and keeps them: the cabinet's, memory with a battery. A file on a disk is not such
+ * memory. The system writes its pages of 4,096 bytes back in any order, at any time, in the middle of a call
+ * too; after a power cut later stores may be there and earlier ones not, and neither lookups nor a mend can
+ * be trusted then. msync(MS_SYNC) between two calls says that all stores made until then are on the disk,
+ * and the file is safe until the next call that stores. It does not keep pages from being written before it
+ * is called, so it gives no order to the stores in the middle of a call, nor to those of the calls since the
+ * last msync. The same holds of persistent memory behind a processor cache whose lines are lost with the
+ * power. Against such cuts keep copies: between two calls write the words to another file, fsync it, rename
+ * it over the last copy, fsync the folder. A copy needs no mend before it is made.
  *
- * That the power may go is another matter. It is survived by memory that takes the stores in program order
- * and keeps them: the cabinet's, memory with a battery. A file on a disk is not such memory. The system
- * writes its pages of 4,096 bytes back in any order, at any time, in the middle of a call too; after a power
- * cut later stores may be there and earlier ones not, and neither lookups nor a mend can be trusted then.
- * msync(MS_SYNC) between two calls says that all stores made until then are on the disk. It does not keep
- * pages from being written before it is called, so it gives no order to the stores in the middle of a
- * call, nor to those of the calls since the last msync. The same holds of persistent memory behind a
- * processor cache whose lines are lost with the power. Against such cuts keep copies: between two calls
- * write the words to another file, fsync it, and rename it over the last copy.
+ * POWER CUTS
+ *
+ * A call makes its stores one whole word at a time, in a fixed order. If the power goes during a call, or
+ * the process is killed, the array is as if the call had been given an allowance of just the stores that
+ * were made; what follows holds after the code PAGE_INDEX_CUT_OFF too.
+ *   - Lookups are right at once. After a put, a remove, a merge or a mend that was cut off,
+ *     page_index_get finds every page that was put and acknowledged, and says of every key what it says
+ *     after the mending. The put or the remove that was cut off has changed nothing that a lookup sees; only
+ *     if its last store was made it has happened, and just was not answered. A merge changes no page.
+ *   - All else waits for the mend: put, remove, merge, list and list block. Call page_index_mend until
+ *     it answers PAGE_INDEX_DONE. Before that they answer PAGE_INDEX_UNMENDED (PAGE_INDEX_NO_KEY for key 0)
+ *     and change nothing, if there is something to mend; if there is not, they do what they always do.
+ *   - A format that was cut off is begun anew. From its first store to its last every other call answers
+ *     PAGE_INDEX_NO_STORE.
+ *
+ * DAMAGE
+ *
+ * The array has no checksum. Noticed are a word 0 that no index has (1) and a directory whose blocks do not
+ * fit together (3; a get looks at its own entry alone). Another depth G that is possible, another segment in
+ * an entry, another key or value are not: a mend then answers PAGE_INDEX_DONE, pages are absent, and puts
+ * may overwrite them. Where memory can be damaged keep a sum of the listing, or copies. A file's new words
+ * are all 0, and a format that was cut off leaves them so: who fears that damage makes word 0 alone 0 asks
+ * at start for all words.
  *
  * ALLOWANCES
  *
@@ -112,9 +134,9 @@
  *
  * HOW LARGE A LIST ARRAY
  *
- * 128 * S words are always enough for page_index_list, S being the segments of format; so are as many words
- * as the index has. Where a list array is too short, the answer is PAGE_INDEX_SHORT_LIST and nothing is
- * written. With 128 words, page_index_list_block lists one block after the other.
+ * 128 * S words are always enough for page_index_list, S being the segments of format; so are `len` words.
+ * Where a list array is too short, the answer is PAGE_INDEX_SHORT_LIST and nothing is written. With 128
+ * words, page_index_list_block lists one block after the other.
  *
  * TWO ARRAYS COMPARED
  *
@@ -148,7 +170,8 @@ extern "C" {
 /* An allowance that cuts no call off. */
 #define PAGE_INDEX_ALL UINT32_MAX
 
-/* The code of an answer. The board is that of month_board.h. */
+/* The code of an answer. Of several refusals that hold the first is given, in this order: the board's (of
+   month_board.h) 11, 12, 13; then 1, 2, 3, 4; then 8, 9, or 14, 15, or 16, 10. */
 enum page_index_code {
     PAGE_INDEX_DONE = 0,
     PAGE_INDEX_NO_STORE = 1,   /* word 0 is not that of an index, or has the old mark, or the array is
@@ -188,7 +211,7 @@ struct page_index_reply {
 
 /*
  * Makes an empty index of largest directory depth `depth` (2 to 12) with `segments` segments (1 to
- * 2^depth) of up to 64 pages each, in 67 stores. Codes: 0, 7, 8, 9.
+ * 2^depth) of up to 64 pages each, in 67 stores, whatever the words held before. Codes: 0, 7, 8, 9.
  */
 struct page_index_reply page_index_format(uint64_t *words, size_t len, uint64_t depth, uint64_t segments,
                                           uint32_t allowance);
@@ -226,9 +249,9 @@ struct page_index_reply page_index_mend(uint64_t *words, size_t len, uint32_t al
  * one. The key stands for its block: any key but 0 that leads there, stored or not. No page changes,
  * whether the merge is whole or cut off. Up to 4,224 stores; none where it is refused with 14 or 15.
  *
- * One call joins one pair. The new block may have a buddy as well: call again, for this key and for
- * others, until all answer 14 or 15. The keys 16 * i + 1, i from 0 to 2^depth - 1, lead to all entries.
- * Codes: 0, 1 to 4, 7, 14, 15.
+ * One call joins one pair. The new block may have a buddy as well. To merge all there is, call it for the
+ * keys 16 * i + 1, i from 0 to 2^D - 1, which lead to all entries, again and again until a whole round
+ * answers nothing but 14 and 15. A round takes some milliseconds. Codes: 0, 1 to 4, 7, 14, 15.
  */
 struct page_index_reply page_index_merge(uint64_t *words, size_t len, uint64_t key, uint32_t allowance);
 
@@ -242,7 +265,7 @@ struct page_index_reply page_index_list(const uint64_t *words, size_t len, uint6
 /*
  * Lists one block: the one that begins at this index of the directory. Writes its records to the list
  * array as page_index_list does, and to `*next` the index at which the next block begins, or 0 if this was
- * the last: no next block begins at 0. A list array of 128 words is always enough.
+ * the last. A list array of 128 words is always enough.
  *
  * From index 0 on, each time at the index that the call before has named, until that is 0, the records
  * are those of page_index_list, in its order, if nobody changes the index in between. After a change blocks

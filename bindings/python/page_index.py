@@ -42,7 +42,9 @@ UNMENDED and change nothing; where they are not, there was nothing to mend.
 Files and power. A mapped file survives a process that is killed at any instruction. A power cut is
 survived by memory that takes the stores in program order and keeps them. A file on a disk is not such
 memory: the system writes its pages back in any order. To only look at a file, map it with
-mmap.ACCESS_COPY, whose writes never reach the file. Nobody may shorten a file while it is mapped.
+mmap.ACCESS_COPY, whose writes never reach the file. Nobody may shorten a file while it is mapped. There is
+no checksum: NO_STORE and BROKEN tell a word 0 that no index has, and a directory that does not fit
+together; other damage is not noticed.
 
 Allowances. Pass none. One that is less than ALL does what a power cut after so many stores does, for
 tests: the call is refused with CUT_OFF where more are due. mend then, and make the call again.

@@ -72,8 +72,9 @@
 //! 5, [`Refusal::TooDeep`], is about the one key: its slots hold pages that share all D directory bits, and no room
 //! elsewhere helps. Give such pages other numbers, or remove one of those that share the slots, or enter everything
 //! into an index with a larger D. 6, [`Refusal::NoSegment`], is about the index: remove pages and [`merge`] until
-//! nothing merges, or enter everything into an index with more segments. To enter it anew: [`list`] it, keep the
-//! list elsewhere, [`format()`], [`put`] each record. After both no page has changed, and nothing has to be mended.
+//! nothing merges, or enter everything into an index with more segments: [`list`] the one and [`put`] each record into
+//! the other. After both no page has changed, nothing has to be mended, and other keys may still be put. A key that is
+//! there is refused with neither.
 //!
 //! # At start
 //!
@@ -116,6 +117,10 @@
 //! power cut later stores may be there and earlier ones not. `msync` between two calls says that all stores until then
 //! are on the disk; it gives no order to the stores in the middle of a call, nor to those since the last `msync`.
 //! Against such cuts keep copies, made between two calls.
+//!
+//! Nothing is noticed of most damage: there is no checksum. [`Refusal::NoStore`] and [`Refusal::Broken`] tell a word 0
+//! that no index has, and a directory that does not fit together; a mend is done also where a key, a value or the
+//! segment of an entry was changed.
 //!
 //! # Allowances
 //!

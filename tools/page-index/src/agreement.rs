@@ -1,7 +1,9 @@
 //! What the tool reads by itself against the calls of the library, on whole, cut and damaged arrays.
 use crate::find::Found;
 use crate::reading::{Damage, Shape, State};
+use crate::stat::{strays, unnoticed};
 use page_index::{format, get, list, mend, merge, put, remove, words_for, Refusal, ALL};
+use std::collections::BTreeSet;
 
 /// Random numbers (xorshift64*), the same at every run.
 struct Random(u64);
@@ -39,6 +41,7 @@ struct Seen {
     absent: usize,
     get_broken: usize,
     stale: usize,
+    stray: usize,
 }
 
 /// An array that a run leaves whose last call was cut off.
@@ -88,6 +91,11 @@ fn damage(words: &mut Vec<u64>, random: &mut Random) {
         4 => words[0] = words[0] >> 32 << 32 | random.below(6) << 16 | random.below(5) << 8 | random.below(5),
         _ => (),
     }
+    // A record once more, in another slot.
+    if let Some(slots) = words.len().checked_sub(256).filter(|slots| *slots >= 2 && random.below(2) == 0) {
+        let [from, to] = [0; 2].map(|_| 128 + 2 * random.below(slots as u64 / 2) as usize);
+        words.copy_within(from..from + 2, to);
+    }
     for _ in 0..random.below(3) {
         if let Some(entry) = words.get_mut(1 + random.below(15) as usize) {
             *entry = random.below(6) | random.below(6) << 32;
@@ -110,6 +118,16 @@ fn listed(words: &[u64]) -> Result<Vec<u64>, Refusal> {
     Ok(records)
 }
 
+/// The records that the tool says no lookup finds: all that are listed, but one for each key that a lookup finds.
+fn check_strays(words: &[u64], records: &[u64], seen: &mut Seen) {
+    let shape = Shape::read(words).unwrap();
+    let strays = strays(words, &shape, &shape.blocks(words).unwrap());
+    let keys: BTreeSet<u64> = records.chunks_exact(2).map(|record| record[0]).collect();
+    let found = keys.iter().filter(|key| get(words, **key).unwrap().is_some()).count();
+    assert_eq!(strays, records.len() / 2 - found);
+    seen.stray += strays;
+}
+
 /// What the tool says of the array, as the listing would.
 fn check_listing(words: &[u64], seen: &mut Seen) {
     let shown = live(words);
@@ -118,6 +136,7 @@ fn check_listing(words: &[u64], seen: &mut Seen) {
         .map(|blocks| blocks.iter().map(|block| block.unequal).sum());
     match listed(words) {
         Ok(records) => {
+            check_strays(words, &records, seen);
             assert_eq!((shown, unequal), (Ok(records), Ok(0usize)));
             seen.whole += 1;
         }
@@ -168,6 +187,9 @@ fn the_tool_reads_what_the_library_reads() {
         let mut words = run(&mut random);
         if round % 2 == 1 {
             damage(&mut words, &mut random);
+        } else {
+            let shape = Shape::read(&words).unwrap();
+            assert_eq!(unnoticed(&words, &shape, &shape.blocks(&words).unwrap()), None, "a run leaves no damage");
         }
         check_listing(&words, &mut seen);
         for _ in 0..40 {
@@ -175,8 +197,8 @@ fn the_tool_reads_what_the_library_reads() {
         }
     }
     println!("{seen:?}");
-    let Seen { whole, unmended, broken, no_store, found, absent, get_broken, stale } = seen;
-    for often in [whole, unmended, broken, no_store, found, absent, get_broken, stale] {
+    let Seen { whole, unmended, broken, no_store, found, absent, get_broken, stale, stray } = seen;
+    for often in [whole, unmended, broken, no_store, found, absent, get_broken, stale, stray] {
         assert!(often >= 100, "each kind of array and answer must come");
     }
 }

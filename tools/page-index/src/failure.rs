@@ -35,7 +35,7 @@ Exit codes:
   1  the key is absent; diff: the files differ
   2  wrong arguments
   3  a file cannot be opened, locked, read or written
-  4  no index, or a damaged one (replies 1 and 3); nothing is written
+  4  no index, or a damaged one (replies 1 and 3, or seen by stat); nothing is written
   5  the index awaits mending (reply 4); nothing is written
   6  another refusal, which the message names";
 

@@ -2,7 +2,8 @@
 use crate::calls::Ended;
 use crate::failure::{Failure, Outcome};
 use crate::numbers::counted;
-use crate::reading::{Block, Shape, State, SLOTS};
+use crate::reading::{Block, Shape, Slot, State, SLOTS};
+use std::collections::BTreeSet;
 use std::io::{self, Write};
 
 /// The records of an index, counted.
@@ -16,8 +17,14 @@ struct Counts {
 fn count(words: &[u64], shape: &Shape, blocks: &[Block]) -> Counts {
     let of = |block, state| shape.slots(words, block).filter(|slot| slot.state == state).count();
     let loads: Vec<usize> = blocks.iter().map(|block| of(block, State::Live)).collect();
-    let stale = blocks.iter().map(|block| of(block, State::Stale)).sum();
-    Counts { live: loads.iter().sum(), stale, loads }
+    Counts { live: loads.iter().sum(), stale: blocks.iter().map(|block| of(block, State::Stale)).sum(), loads }
+}
+
+/// The live records that no lookup finds: they stand outside their key's window, or behind the same key.
+pub fn strays(words: &[u64], shape: &Shape, blocks: &[Block]) -> usize {
+    let first = |block, key| Shape::window(key).find(|number| shape.slot(words, block, *number).key == key);
+    let stray = |block, slot: &Slot| slot.state == State::Live && first(block, slot.key) != Some(slot.number);
+    blocks.iter().map(|block| shape.slots(words, block).filter(|slot| stray(block, slot)).count()).sum()
 }
 
 /// The keys in segments that no entry names: no lookup reads them.
@@ -48,27 +55,37 @@ fn say_loads(out: &mut dyn Write, loads: &[usize]) -> io::Result<()> {
     Ok(())
 }
 
-/// Says the records of the blocks, and how full they are.
+/// Says how full the blocks are.
+fn say_load(out: &mut dyn Write, shape: &Shape, loads: &[usize]) -> io::Result<()> {
+    let live = loads.iter().sum();
+    let (of_blocks, of_all) = (share(live, SLOTS * loads.len()), share(live, SLOTS * shape.segments));
+    writeln!(out, "load                {of_blocks} % of the slots of blocks, {of_all} % of all")?;
+    writeln!(out, "records of a block  {}", range(loads.iter().copied()))?;
+    say_loads(out, loads)
+}
+
+/// Says the blocks, their segments and their records.
 fn say_records(out: &mut dyn Write, words: &[u64], shape: &Shape, blocks: &[Block]) -> io::Result<()> {
     let Counts { live, stale, loads } = count(words, shape, blocks);
     let named = shape.named(words);
     let used = named.iter().filter(|named| **named).count();
-    let (slots, all) = (SLOTS * blocks.len(), SLOTS * shape.segments);
     let depths = range(blocks.iter().map(|block| block.entry.depth as usize));
     writeln!(out, "blocks              {}, of local depths {depths}", blocks.len())?;
     writeln!(out, "segments used       {used}, free {}", shape.segments - used)?;
     writeln!(out, "live records        {live}")?;
     writeln!(out, "stale records       {stale}")?;
-    writeln!(out, "empty slots         {}, in the segments of blocks", slots - live - stale)?;
+    writeln!(out, "empty slots         {}, in the segments of blocks", SLOTS * blocks.len() - live - stale)?;
     writeln!(out, "in free segments    {}, which no lookup reads", counted(leftovers(words, shape, &named), "key"))?;
-    writeln!(
-        out,
-        "load                {} % of the slots of blocks, {} % of all",
-        share(live, slots),
-        share(live, all)
-    )?;
-    writeln!(out, "records of a block  {}", range(loads.iter().copied()))?;
-    say_loads(out, &loads)
+    say_load(out, shape, &loads)
+}
+
+/// Damage that no call refuses, if there is any: what no run of calls leaves.
+pub fn unnoticed(words: &[u64], shape: &Shape, blocks: &[Block]) -> Option<String> {
+    let segments: BTreeSet<usize> = blocks.iter().map(|block| block.entry.segment).collect();
+    let shared = blocks.len() - segments.len();
+    let stray = strays(words, shape, blocks);
+    let said = format!("segments that two blocks name: {shared}; live records that no lookup finds: {stray}");
+    (shared + stray > 0).then_some(said)
 }
 
 pub fn stat(out: &mut dyn Write, path: &str, words: &[u64]) -> Ended {
@@ -83,5 +100,8 @@ pub fn stat(out: &mut dyn Write, path: &str, words: &[u64]) -> Ended {
         0 => writeln!(out, "mended              yes")?,
         unequal => writeln!(out, "mended              no: a mend has {} to make", counted(unequal, "store"))?,
     }
-    Ok(Outcome::Done)
+    match unnoticed(words, &shape, &blocks) {
+        None => Ok(Outcome::Done),
+        Some(damage) => Err(Failure::damaged(path, format!("damaged, and no call refuses it: {damage}"))),
+    }
 }
