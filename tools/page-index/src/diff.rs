@@ -31,6 +31,15 @@ fn records(side: &Side) -> Result<Records, Failure> {
     Ok(records)
 }
 
+/// Says whether the file awaits mending: its records are then those of after it.
+fn say_mending(out: &mut dyn Write, side: &Side) -> Result<(), Failure> {
+    let (_, blocks) = show::read(side.path, side.words)?;
+    if blocks.iter().any(|block| block.unequal > 0) {
+        writeln!(out, "{} awaits mending", side.path)?;
+    }
+    Ok(())
+}
+
 fn values(slots: &[Slot]) -> Vec<u64> {
     slots.iter().map(|slot| slot.value).collect()
 }
@@ -44,45 +53,40 @@ fn said(slots: &[Slot]) -> String {
     values(slots).iter().map(u64::to_string).collect::<Vec<_>>().join(" and ")
 }
 
+/// Says the records of a side whose keys the other has not, and answers how many there are.
+fn say_only(out: &mut dyn Write, side: &Side, records: &Records, others: &Records) -> io::Result<usize> {
+    let only: Vec<_> = records.iter().filter(|(key, _)| !others.contains_key(key)).collect();
+    for (key, slots) in &only {
+        writeln!(out, "only in {}: key {key}, value {}", side.path, said(slots))?;
+    }
+    Ok(only.len())
+}
+
+/// Says the keys of both sides that have other values, and answers how many there are.
+fn say_other(out: &mut dyn Write, a: &Side, b: &Side, both: &[(u64, &[Slot], &[Slot])]) -> io::Result<usize> {
+    let other: Vec<_> = both.iter().filter(|(_, slots, others)| values(slots) != values(others)).collect();
+    for (key, slots, others) in &other {
+        writeln!(out, "another value: key {key}, {} in {}, {} in {}", said(slots), a.path, said(others), b.path)?;
+    }
+    Ok(other.len())
+}
+
 /// Compares the live records of both, and says which differ.
 pub fn by_record(out: &mut dyn Write, a: &Side, b: &Side) -> Ended {
     let (in_a, in_b) = (records(a)?, records(b)?);
-    let (mut only_a, mut only_b, mut other, mut same, mut moved) = (0, 0, 0, 0, 0);
-    for (key, slots) in &in_a {
-        match in_b.get(key) {
-            None => {
-                writeln!(out, "only in {}: key {key}, value {}", a.path, said(slots))?;
-                only_a += 1;
-            }
-            Some(others) if values(others) != values(slots) => {
-                writeln!(
-                    out,
-                    "another value: key {key}, {} in {}, {} in {}",
-                    said(slots),
-                    a.path,
-                    said(others),
-                    b.path
-                )?;
-                other += 1;
-            }
-            Some(others) => {
-                same += 1;
-                moved += usize::from(places(slots) != places(others));
-            }
-        }
-    }
-    for (key, slots) in in_b.iter().filter(|(key, _)| !in_a.contains_key(key)) {
-        writeln!(out, "only in {}: key {key}, value {}", b.path, said(slots))?;
-        only_b += 1;
-    }
+    say_mending(out, a)?;
+    say_mending(out, b)?;
+    let in_both = |(key, slots)| in_b.get(key).map(|others| (*key, Vec::as_slice(slots), others.as_slice()));
+    let both: Vec<_> = in_a.iter().filter_map(in_both).collect();
+    let (only_a, only_b) = (say_only(out, a, &in_a, &in_b)?, say_only(out, b, &in_b, &in_a)?);
+    let other = say_other(out, a, b, &both)?;
     if only_a + only_b + other == 0 {
-        return same_records(out, a, b, same, moved);
+        let moved = both.iter().filter(|(_, slots, others)| places(slots) != places(others)).count();
+        return same_records(out, a, b, both.len(), moved);
     }
-    writeln!(
-        out,
-        "{only_a} only in {}, {only_b} only in {}, {other} with another value, {same} the same",
-        a.path, b.path
-    )?;
+    let same = both.len() - other;
+    write!(out, "{only_a} only in {}, {only_b} only in {}, ", a.path, b.path)?;
+    writeln!(out, "{other} with another value, {same} the same")?;
     Ok(Outcome::No)
 }
 
