@@ -179,12 +179,14 @@ def main(folder, repetitions):
     fills = [(peer, "fill pages", peer) for peer in ("ours", "twin")]
     plot(folder, times, "fill", "fill with running numbers", ("pages", "milliseconds", ""), fills, 1e-3)
     printed, quick_enough = print_table(times)
+    steps = read_counts(folder / "steps.txt")
     text = (HERE / "RESULTS.template.md").read_text()
     for mark, value in {
         "@command@": "bench/run", "@repetitions@": str(repetitions), "@processors@": str(machine["num_cpus"]),
         "@mhz@": str(machine["mhz_per_cpu"]), "@ratios@": ratio_table(times), "@times@": time_table(times), "@counts@": count_table(counts),
         "@instructions@": instruction_table(folder / "instructions.txt"), "@desk@": desk_table(root), "@worst@": counts["worst", "stores"], "@memory@": memory_table(counts),
-        "@print@": printed, "@most_gets@": str(MOST_GETS), "@steps@": step_table(read_counts(folder / "steps.txt")),
+        "@print@": printed, "@most_gets@": str(MOST_GETS), "@steps@": step_table(steps),
+        "@least@": steps["cabinet/random", "least"], "@most@": steps["cabinet/random", "most"],
     }.items():
         text = text.replace(mark, value)
     (HERE / "RESULTS.md").write_text(text)

@@ -1,5 +1,6 @@
 // How many pages an index takes until its first refusal, for keys numbered in steps and for random keys: by ours,
-// and by the twin with keys as they stand in the place of folded keys.
+// and by the twin with keys as they stand in the place of folded keys. Of random keys also the least and the most of
+// twenty draws.
 #include "peers.hpp"
 
 namespace {
@@ -23,11 +24,11 @@ struct Taken {
     bool operator==(const Taken &) const = default;
 };
 
-// The keys are step, 2 * step and so on; for the step 0 they are random.
+// The keys are step, 2 * step and so on; for the step 0 they are random, by this seed.
 template <class Peer>
-Taken taken(word depth, word segments, word step) {
+Taken taken(word depth, word segments, word step, word seed = 7) {
     Peer peer(depth, segments);
-    std::mt19937_64 random(7);
+    std::mt19937_64 random(seed);
     for (word page = 1; page <= most_pages; page++)
         if (word refusal = peer.put(step ? step * page : random_key(random), page)) return {page - 1, refusal};
     return {most_pages, 0};
@@ -42,6 +43,18 @@ void row(const char *shape, word depth, word segments, word step) {
     std::printf("%s pages_as_it_stands %lu\n%s refusal_as_it_stands %lu\n", group, as_it_stands.pages, group, as_it_stands.refusal);
 }
 
+// Twenty draws of random keys, in an index of the cabinet's size.
+void draws() {
+    word least = most_pages, most = 0;
+    for (word seed = 0; seed < 20; seed++) {
+        Taken ours = taken<Ours>(cabinet_depth, cabinet_segments, 0, seed);
+        must(ours.refusal == PAGE_INDEX_TOO_DEEP, "random keys are refused with 5");
+        least = std::min(least, ours.pages);
+        most = std::max(most, ours.pages);
+    }
+    std::printf("cabinet/random least %lu\ncabinet/random most %lu\n", least, most);
+}
+
 }  // namespace
 
 int main() {
@@ -49,5 +62,6 @@ int main() {
         row("small", 6, 64, step);
         row("cabinet", cabinet_depth, cabinet_segments, step);
     }
+    draws();
     return 0;
 }

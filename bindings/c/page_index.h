@@ -1,6 +1,6 @@
 /*
- * The page index: image numbers (keys) and the places of their scans (values) in an array of
- * 64-bit words that keeps its contents when the power goes.
+ * The page index: image numbers (keys) and the places of their scans (values) in an array of 64-bit words
+ * that keeps its contents when the power goes.
  *
  * Link with libpage_index.a (`rt staticlib page_index` writes it to target/staticlib), for x86-64 Linux:
  *
@@ -15,16 +15,21 @@
  *   - `list` points to `list_len` words that do not overlap the words of the index.
  *   - `next` points to one word that overlaps neither of the two.
  *   - No pointer is NULL, also where its length is 0.
- * Nothing else: every content of the array and every argument gets an answer. No call reads or writes
- * a word outside the array. Words behind those that the index needs are never touched; they may be yours.
+ * Nothing else: every content of the array and every argument gets an answer. No call reads or writes a
+ * word outside the array. Words behind those that the index needs are never touched; they may be yours.
  * Several arrays may be used by several threads. On one array a call that stores (format, put, remove,
  * mend, merge) is made alone; the others (get, list, list block) may run side by side.
  *
  * CHOOSING SIZES AND KEYS
  *
- * An index of largest directory depth D (2 to 12) with S segments (1 to 2^D) takes 2^(D+1) + 128 * S
- * words of eight bytes, PAGE_INDEX_WORDS(D, S). For 4 MiB, 524,288 words: D = 12, S = 4,032. A segment has
- * 64 slots for a page each; every page has sixteen of them to stand in, its window. Where these are taken,
+ * Pages stand in segments, and the directory says in which: by G bits of the key, the directory bits, it
+ * has 2^G entries, each with the number of a segment. Neighbouring entries with one segment are a block;
+ * its keys agree in as many directory bits as its local depth says. G grows with the index, up to D. README
+ * draws all of it, under 'The array of words'.
+ *
+ * An index of largest directory depth D (2 to 12) with S segments (1 to 2^D) takes 2^(D+1) + 128 * S words
+ * of eight bytes, PAGE_INDEX_WORDS(D, S). For 4 MiB, 524,288 words: D = 12, S = 4,032. A segment has 64
+ * slots for a page each; every page has sixteen of them to stand in, its window. Where these are taken,
  * the segment is split in two, by one bit more of the keys. So an index is not filled to the last slot:
  * running numbers fill some five slots of eight. How often a segment can be split is limited by D. So a
  * larger D takes keys that are spread less evenly; its directory takes twice the words for each depth, and
@@ -32,34 +37,39 @@
  *
  * Every number but 0 is a key, and every number a value. Where a key goes is taken from the low 4 + D bits
  * of its folded key, key ^ key / 1024: the low four bits choose the bucket, the others the segment, bit 4
- * first. Keys are folded, not hashed: of a key itself the low 14 + D bits count, and no others. With D = 12,
- * keys that agree in bits 0 to 25 share their sixteen slots for good, and the seventeenth of them is refused
- * with 5. So number pages so that the low bits change: running numbers are good. Pages that an index of 4 MiB
- * takes, with keys in steps (the step, twice the step and so on), until one put is refused for the first
+ * first. Keys are folded, not hashed: of a key itself the low 14 + D bits count, and no others. If D is 12,
+ * keys that agree in bits 0 to 25 share their sixteen slots for good, and the seventeenth of them is
+ * refused. So number pages so that the low bits change: running numbers are good. Pages that an index of
+ * 4 MiB takes, with keys in steps (the step, twice the step and so on), until a put is refused for the first
  * time, and with which code:
  *
- *     step 1      162,815   6      step 1,000   100,961   5      step 2^32         16   5
- *     step 10      52,996   5      step 1,024   148,415   6      random keys   81,648   5
- *     step 16      34,752   6      step 65,536   16,384   5
- *     step 100     13,140   5
+ *     step 1      162,815   6      step 100     13,140   5      step 65,536   16,384   5
+ *     step 10      52,996   5      step 1,000  100,961   5      step 2^32         16   5
+ *     step 16      34,752   6      step 1,024  148,415   6
+ *     random keys, in twenty draws: 81,648 to 113,343   5
  *
- * After 5 and 6 no page has changed, nothing has to be mended, and other keys may still be put. A key that
+ * After 5 and 6 no page has changed, nothing has to be mended, and other keys may still be put. The put
+ * may have split before it was refused, and so have taken free segments; merges give them back. A key that
  * is there is never refused with 5 or 6.
- *   - 5, too deep: the window is full of pages that share all D directory bits, and no room elsewhere helps.
- *     Give such pages other numbers (running ones, say, that you keep beside the image numbers), or remove a
- *     page of that window (tools/page-index find shows it), or move to an index with a larger D.
- *   - 6, no segment: the window is full, and no segment is free to split into. Remove pages and merge until
- *     nothing merges, which gives segments back (page_index_merge); or move to an index with more segments.
+ *   - 5, too deep: the window is full of pages that share all D directory bits, and no room elsewhere
+ *     helps. Give such pages other numbers (running ones, say, that you keep beside the image numbers), or
+ *     remove a page of that window (tools/page-index find shows it), or move to an index with a larger D.
+ *   - 6, no segment: the window is full, and no segment is free to split into. Remove pages and merge
+ *     until nothing merges, which gives segments back (page_index_merge); or move to an index with more
+ *     segments. A program may merge and put again by itself: that costs a round of merges, also where
+ *     nothing merges.
  * To move, list the index and put each record into another one, in another array; only then give up the
- * first. How full it is: pages are the value of a list, segments in use the number of blocks that are listed
- * one by one.
+ * first. How full it is: pages are the value of a list, segments in use the number of blocks that are
+ * listed one by one.
  *
  * AT START
  *
  *   1. Pass the whole memory, with the same `len` at each start; do not take it from word 0.
- *   2. If the memory is new, format it. It is new if its file was made just now, or if word 0 is 0: a
- *      format stores 0 there first and the mark last, so that one which was cut off is begun anew.
- *   3. Else mend it, with PAGE_INDEX_ALL. At PAGE_INDEX_DONE it is ready.
+ *   2. If the memory is new, format it. It is new if word 0 is 0, as it is in a file made just now. A
+ *      format stores 0 there first, and last the mark by which an index is known, so that one which was
+ *      cut off is begun anew.
+ *   3. Else mend it, with PAGE_INDEX_ALL. At PAGE_INDEX_DONE it is ready. Its shape is that of word 0 (D
+ *      in bits 8 to 15, S in bits 16 to 31), which nobody compares with yours.
  *   4. At any other code stop, and have somebody look at it (tools/page-index). Do not format.
  *      PAGE_INDEX_NO_STORE does not mean that nothing is there: it is also the answer to a damaged word 0
  *      and to a `len` that is too short. 'Mend; if that says 1, format' has wiped 1,000 pages, when the
@@ -69,67 +79,73 @@
  *                           : page_index_mend(words, len, PAGE_INDEX_ALL);
  *     if (reply.code != PAGE_INDEX_DONE) stop();
  *
- * From then on a page is kept once its put has answered PAGE_INDEX_DONE. With PAGE_INDEX_ALL, and if nobody
- * else writes the words, put answers 0, 2, 5 or 6, get and remove 0, 2 or 255, merge 0, 2, 14 or 15, list 0
- * or 10, list block 0, 10 or 16. Any other code means that somebody else has written, or damage: stop.
+ * From then on a page is kept once its put has answered PAGE_INDEX_DONE. With PAGE_INDEX_ALL, and if
+ * nobody else writes the words, put answers 0, 2, 5 or 6, get and remove 0, 2 or 255, merge 0, 2, 14 or
+ * 15, list 0 or 10, list block 0, 10 or 16. Any other code means that somebody else has written, or
+ * damage: stop.
  *
  * IN A FILE
  *
  * An index may stand in a file that is mapped. What was stored is then in the file also if the process is
  * killed at any instruction; nothing has to be done at the end, and no page that was acknowledged is lost.
- *   1. open(O_RDWR | O_CREAT), and flock(LOCK_EX | LOCK_NB): one process at a time. The lock is held as long
- *      as the descriptor is open. tools/page-index takes it too, also to look.
- *   2. fstat. A file of no bytes is new: ftruncate gives it its length, and its bytes are 0. (Its maker may
- *      have been killed before that.) A file of any other length than its own: stop.
- *   3. posix_fallocate, at each start: it takes the space on the disk, and changes no byte. A store into
- *      memory cannot say that the disk is full; it would end the process (SIGBUS), as it does where somebody
- *      shortens the file while it is mapped.
+ *   1. open(O_RDWR | O_CREAT), and flock(LOCK_EX | LOCK_NB): one process at a time. The lock is held as
+ *      long as the descriptor is open. tools/page-index takes it too, also to look.
+ *   2. fstat. A file of no bytes is new, or its maker was killed here: ftruncate gives it 8 * len bytes,
+ *      and they are 0. A file of any other length but 8 * len bytes: stop.
+ *   3. posix_fallocate, at each start: it takes the space on the disk, and changes no byte (its error is
+ *      what it returns, not errno). A store into memory cannot say that the disk is full; it would end the
+ *      process (SIGBUS), as it does where somebody shortens the file while it is mapped.
  *   4. mmap(PROT_READ | PROT_WRITE, MAP_SHARED): a mapping is aligned. Then start as above.
  * With -std=c99 these functions want _DEFAULT_SOURCE defined before the first #include.
  *
  * FILES AND POWER
  *
  * That the power may go is another matter than a killed process. It is survived by memory that takes the
- * stores in program order and keeps them: the cabinet's, memory with a battery. A file on a disk is not such
- * memory. The system writes its pages of 4,096 bytes back in any order, at any time, in the middle of a call
- * too; after a power cut later stores may be there and earlier ones not, and neither lookups nor a mend can
- * be trusted then. msync(MS_SYNC) between two calls says that all stores made until then are on the disk,
- * and the file is safe until the next call that stores. It does not keep pages from being written before it
- * is called, so it gives no order to the stores in the middle of a call, nor to those of the calls since the
- * last msync. The same holds of persistent memory behind a processor cache whose lines are lost with the
- * power. Against such cuts keep copies: between two calls write the words to another file, fsync it, rename
- * it over the last copy, fsync the folder. A copy needs no mend before it is made.
+ * stores in program order and keeps them: that of the bureau's cabinet, memory with a battery. A file on a
+ * disk is not such memory. The system writes its pages of 4,096 bytes back in any order, at any time, in
+ * the middle of a call too; after a power cut later stores may be there and earlier ones not, and neither
+ * lookups nor a mend can be trusted then. msync(MS_SYNC) between two calls says that all stores made until
+ * then are on the disk, and the file is safe until the next call that stores. It does not keep pages from
+ * being written before it is called, so it gives no order to the stores in the middle of a call, nor to
+ * those of the calls since the last msync. The same holds of persistent memory behind a processor cache
+ * whose lines are lost with the power. Against such cuts keep copies: between two calls write the words to
+ * another file, fsync it, rename it over the last copy, fsync the folder. A copy needs no mend before it
+ * is made.
  *
  * POWER CUTS
  *
  * A call makes its stores one whole word at a time, in a fixed order. If the power goes during a call, or
  * the process is killed, the array is as if the call had been given an allowance of just the stores that
  * were made; what follows holds after the code PAGE_INDEX_CUT_OFF too.
- *   - Lookups are right at once. After a put, a remove, a merge or a mend that was cut off,
- *     page_index_get finds every page that was put and acknowledged, and says of every key what it says
- *     after the mending. The put or the remove that was cut off has changed nothing that a lookup sees; only
- *     if its last store was made it has happened, and just was not answered. A merge changes no page.
- *   - All else waits for the mend: put, remove, merge, list and list block. Call page_index_mend until
- *     it answers PAGE_INDEX_DONE. Before that they answer PAGE_INDEX_UNMENDED (PAGE_INDEX_NO_KEY for key 0)
+ *   - Lookups are right at once. After a put, a remove, a merge or a mend that was cut off, page_index_get
+ *     finds every page that was put and acknowledged, and says of every key what it says after the
+ *     mending. The put or the remove that was cut off has changed nothing that a lookup sees; only if its
+ *     last store was made it has happened, and just was not answered. A merge changes no page.
+ *   - All else waits for the mend: put, remove, merge, list and list block. Call page_index_mend until it
+ *     answers PAGE_INDEX_DONE. Before that they answer PAGE_INDEX_UNMENDED (PAGE_INDEX_NO_KEY for key 0)
  *     and change nothing, if there is something to mend; if there is not, they do what they always do.
  *   - A format that was cut off is begun anew. From its first store to its last every other call answers
  *     PAGE_INDEX_NO_STORE.
  *
  * DAMAGE
  *
- * The array has no checksum. Noticed are a word 0 that no index has (1) and a directory whose blocks do not
- * fit together (3; a get looks at its own entry alone). Another depth G that is possible, another segment in
- * an entry, another key or value are not: a mend then answers PAGE_INDEX_DONE, pages are absent, and puts
- * may overwrite them. Where memory can be damaged keep a sum of the listing, or copies. A file's new words
- * are all 0, and a format that was cut off leaves them so: who fears that damage makes word 0 alone 0 asks
- * at start for all words.
+ * The array has no checksum, and what is said here of pages holds for words that these calls alone have
+ * written. Noticed are a word 0 that no index has (1) and a directory whose blocks do not fit together (3;
+ * a get looks at its own entry alone). Another depth G that is possible, another segment in an entry,
+ * another key or value are not: a mend answers PAGE_INDEX_DONE, pages are absent, and puts may overwrite
+ * them. A local depth that became smaller, in the entry where a block begins, looks like a split that was
+ * cut off: the calls answer 4, the mend overwrites entries, and pages are absent that a get still found.
+ * Where memory can be damaged keep copies, or a sum of the listing, and copy the words before a mend.
+ * Where only files that are new are ever formatted, all words of one are 0 until its format is done: a
+ * program may format only where all are 0, so that damage which makes word 0 alone 0 costs no page.
  *
  * ALLOWANCES
  *
  * The calls that store take the number of stores that they may make. Pass PAGE_INDEX_ALL: no call needs
  * more than 9,764. A smaller allowance does what a power cut after so many stores does, so that a program
  * can be tested without one: the call answers PAGE_INDEX_CUT_OFF where more are due. After that code mend
- * before anything is changed, then make the call again. Allowances do not cut a long call into short ones:
+ * before anything is changed, then make the put or the remove again. (A merge the mend may have finished:
+ * made again it joins the next pair, or answers 14.) Allowances do not cut a long call into short ones:
  * only a mend goes on where it was cut off, a put begins its split again.
  *
  * HOW LARGE A LIST ARRAY
@@ -142,9 +158,9 @@
  *
  * Of one array and one call, an allowance larger by one changes at most one word of what is left: the word
  * of the one store more. Two puts that differ in the value alone have the same code and the same number of
- * stores, and what they leave differs at most in the value word of the key's slot; not at all where the put
- * is refused, or cut off before it stores the value. The same pages put in another order stand in other
- * places: compare listings, not bytes (tools/page-index diff).
+ * stores, and what they leave differs at most in the value word of the key's slot; not at all where the
+ * put is refused, or cut off before it stores the value. The same pages put in another order stand in
+ * other places: compare listings, not bytes (tools/page-index diff).
  *
  * A STORE WITH THE OLD MARK
  *
@@ -171,14 +187,15 @@ extern "C" {
 #define PAGE_INDEX_ALL UINT32_MAX
 
 /* The code of an answer. Of several refusals that hold the first is given, in this order: the board's (of
-   month_board.h) 11, 12, 13; then 1, 2, 3, 4; then 8, 9, or 14, 15, or 16, 10. */
+   month_board.h) 11, 12, 13; then 1, 2, 3, 4; then 5, 6, or 8, 9, or 14, 15, or 16, 10. 7 comes at the first
+   store that is not allowed, so before a 5 or 6 that a put finds only behind a split. */
 enum page_index_code {
     PAGE_INDEX_DONE = 0,
     PAGE_INDEX_NO_STORE = 1,   /* word 0 is not that of an index, or has the old mark, or the array is
                                   too short for it */
     PAGE_INDEX_NO_KEY = 2,     /* the key is 0 */
     PAGE_INDEX_BROKEN = 3,     /* the directory is damaged */
-    PAGE_INDEX_UNMENDED = 4,   /* a split or a merge was cut off: mend first */
+    PAGE_INDEX_UNMENDED = 4,   /* a split or a merge was cut off: mend first (or an entry is damaged) */
     PAGE_INDEX_TOO_DEEP = 5,   /* the key's slots are full, and its segment has the largest depth */
     PAGE_INDEX_NO_SEGMENT = 6, /* the key's slots are full, and no segment is free */
     PAGE_INDEX_CUT_OFF = 7,    /* more stores were due than allowed */
@@ -238,8 +255,8 @@ struct page_index_reply page_index_remove(uint64_t *words, size_t len, uint64_t 
 /*
  * Takes back what a split that was cut off has left in the directory, and finishes a merge that was cut
  * off with its first entry stored; a merge that was cut off before that has left the directory as it was.
- * No lookup's answer changes, whether the mend is whole or cut off. With nothing to do it makes no store,
- * so it may be called at every start. At most 4,096 stores. Codes: 0, 1, 3, 7.
+ * No lookup's answer changes, whether the mend is whole or cut off, if the words are not damaged. With
+ * nothing to do it makes no store, so it may be called at every start. At most 4,096 stores. Codes: 0, 1, 3, 7.
  */
 struct page_index_reply page_index_mend(uint64_t *words, size_t len, uint32_t allowance);
 

@@ -44,10 +44,11 @@ survived by memory that takes the stores in program order and keeps them. A file
 memory: the system writes its pages back in any order. To only look at a file, map it with
 mmap.ACCESS_COPY, whose writes never reach the file. Nobody may shorten a file while it is mapped. There is
 no checksum: NO_STORE and BROKEN tell a word 0 that no index has, and a directory that does not fit
-together; other damage is not noticed.
+together. Other damage is not noticed, or looks like a split that was cut off; pages may be lost then.
 
 Allowances. Pass none. One that is less than ALL does what a power cut after so many stores does, for
-tests: the call is refused with CUT_OFF where more are due. mend then, and make the call again.
+tests: the call is refused with CUT_OFF where more are due. mend then, and make the put or the remove again;
+a merge the mend may have finished.
 
 A store of before keys were folded has the mark 0x50414745 in the upper half of word 0, in place of
 0x50414746: every call but format refuses it with NO_STORE and changes nothing. It is entered anew: listed
@@ -307,7 +308,7 @@ def mend(words, allowance=ALL):
     """Takes back what a split that was cut off has left in the directory, finishes a merge that was cut off
     with its first entry stored, and answers the number of stores: 0 where there was nothing to do, at most
     4,096. A merge that was cut off before that has left the directory as it was. No lookup's answer
-    changes, whether the mend is whole or cut off.
+    changes, whether the mend is whole or cut off, if the words are not damaged.
 
     Refused with NO_STORE, BROKEN, CUT_OFF."""
     return _call(_mend, words, _allowance(allowance)).stores

@@ -67,7 +67,7 @@
 //! | in steps of 1,024 | 148,415 | 6 |
 //! | in steps of 65,536 | 16,384 | 5 |
 //! | in steps of 2^32 | 16 | 5 |
-//! | random | 81,648 | 5 |
+//! | random, twenty draws | 81,648 to 113,343 | 5 |
 //!
 //! 5, [`Refusal::TooDeep`], is about the one key: its slots hold pages that share all D directory bits, and no room
 //! elsewhere helps. Give such pages other numbers, or remove one of those that share the slots, or enter everything
@@ -118,15 +118,15 @@
 //! are on the disk; it gives no order to the stores in the middle of a call, nor to those since the last `msync`.
 //! Against such cuts keep copies, made between two calls.
 //!
-//! Nothing is noticed of most damage: there is no checksum. [`Refusal::NoStore`] and [`Refusal::Broken`] tell a word 0
-//! that no index has, and a directory that does not fit together; a mend is done also where a key, a value or the
-//! segment of an entry was changed.
+//! There is no checksum. [`Refusal::NoStore`] and [`Refusal::Broken`] tell a word 0 that no index has, and a directory
+//! that does not fit together. Other damage is not noticed, or looks like a split that was cut off, which a mend takes
+//! back: pages may be lost then. Where memory can be damaged keep copies, or a sum of the listing.
 //!
 //! # Allowances
 //!
 //! The calls that store take the number of stores that they may make. Pass [`ALL`]. A smaller allowance does what a
 //! power cut after so many stores does, for tests: the call is refused with [`Refusal::CutOff`] where more are due.
-//! [`mend`] then, before anything is changed, and make the call again.
+//! [`mend`] then, before anything is changed, and make the put or the remove again; a merge the mend may have finished.
 //!
 //! # How large a list array
 //!
@@ -318,7 +318,7 @@ pub fn remove(words: &mut [u64], key: u64, allowance: u32) -> Result<Option<u32>
 /// Takes back what a split that was cut off has left in the directory, finishes a merge that was cut off
 /// with its first entry stored, and answers the number of stores: 0 where there was nothing to do, at most
 /// 4,096. A merge that was cut off before that has left the directory as it was. No lookup's answer changes,
-/// whether the mend is whole or cut off.
+/// whether the mend is whole or cut off, if the words are not damaged.
 pub fn mend(words: &mut [u64], allowance: u32) -> Result<u32, Refused> {
     // SAFETY: as in `format`.
     stores(unsafe { page_index_mend(words.as_mut_ptr(), words.len(), allowance) })
