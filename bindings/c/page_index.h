@@ -136,6 +136,7 @@
  * them. A local depth that became smaller, in the entry where a block begins, looks like a split that was
  * cut off: the calls answer 4, the mend overwrites entries, and pages are absent that a get still found.
  * Where memory can be damaged keep copies, or a sum of the listing, and copy the words before a mend.
+ * tools/page-index stat tells some damage of this kind, and its mend is not made where a lookup would change.
  * Where only files that are new are ever formatted, all words of one are 0 until its format is done: a
  * program may format only where all are 0, so that damage which makes word 0 alone 0 costs no page.
  *

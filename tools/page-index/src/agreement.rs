@@ -1,5 +1,6 @@
 //! What the tool reads by itself against the calls of the library, on whole, cut and damaged arrays.
 use crate::find::Found;
+use crate::mending::changed_by_mend;
 use crate::reading::{Damage, Shape, State};
 use crate::stat::{strays, unnoticed};
 use page_index::{format, get, list, mend, merge, put, remove, words_for, Refusal, ALL};
@@ -42,6 +43,7 @@ struct Seen {
     get_broken: usize,
     stale: usize,
     stray: usize,
+    changed: usize,
 }
 
 /// An array that a run leaves whose last call was cut off.
@@ -128,6 +130,16 @@ fn check_strays(words: &[u64], records: &[u64], seen: &mut Seen) {
     seen.stray += strays;
 }
 
+/// The lookups that the tool says a mend changes: of all keys that stand anywhere in the segments.
+fn check_mend(words: &[u64], mended: &[u64], seen: &mut Seen) {
+    let shape = Shape::read(words).unwrap();
+    let keys: BTreeSet<u64> = words[shape.segment_word(0)..shape.words()].iter().copied().step_by(2).collect();
+    let value = |words, key: u64| get(words, key).ok().flatten();
+    let changed = keys.iter().filter(|key| value(words, **key) != value(mended, **key)).count();
+    assert_eq!(changed_by_mend(words, &shape, &shape.blocks(words).unwrap()), changed);
+    seen.changed += changed;
+}
+
 /// What the tool says of the array, as the listing would.
 fn check_listing(words: &[u64], seen: &mut Seen) {
     let shown = live(words);
@@ -144,6 +156,7 @@ fn check_listing(words: &[u64], seen: &mut Seen) {
             let mut mended = words.to_vec();
             assert_eq!(unequal, Ok(mend(&mut mended, ALL).unwrap() as usize));
             assert_eq!(shown.unwrap(), listed(&mended).unwrap());
+            check_mend(words, &mended, seen);
             seen.unmended += 1;
         }
         Err(Refusal::Broken) => {
@@ -197,8 +210,8 @@ fn the_tool_reads_what_the_library_reads() {
         }
     }
     println!("{seen:?}");
-    let Seen { whole, unmended, broken, no_store, found, absent, get_broken, stale, stray } = seen;
-    for often in [whole, unmended, broken, no_store, found, absent, get_broken, stale, stray] {
+    let Seen { whole, unmended, broken, no_store, found, absent, get_broken, stale, stray, changed } = seen;
+    for often in [whole, unmended, broken, no_store, found, absent, get_broken, stale, stray, changed] {
         assert!(often >= 100, "each kind of array and answer must come");
     }
 }

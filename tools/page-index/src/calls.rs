@@ -1,7 +1,9 @@
 //! The calls, by the proved library on the mapped file.
 use crate::failure::{Failure, Outcome};
+use crate::mending::changed_by_mend;
 use crate::numbers::{counted, number};
 use crate::progress::Progress;
+use crate::reading::Shape;
 use page_index::mapped::{MappedFile, MappedFileMut};
 use page_index::{list_block, Refusal, Refused, ALL, BLOCK_WORDS};
 use std::io::{BufRead, Write};
@@ -110,8 +112,16 @@ pub fn remove(out: &mut dyn Write, path: &str, key: u64, allowance: u32) -> Ende
     }
 }
 
-pub fn mend(out: &mut dyn Write, path: &str, allowance: u32) -> Ended {
+/// Mends. An index whose lookups a mend would change was damaged, and is left alone unless it is forced.
+pub fn mend(out: &mut dyn Write, path: &str, force: bool, allowance: u32) -> Ended {
     let mut words = open_to_change(path)?;
+    let shape_and_blocks = Shape::read(&words).and_then(|shape| Ok((shape, shape.blocks(&words)?)));
+    let changed = shape_and_blocks.map_or(0, |(shape, blocks)| changed_by_mend(&words, &shape, &blocks));
+    if changed > 0 && !force {
+        let said =
+            format!("damaged: lookups that a mend changes: {changed}; copy the file first, --force mends all the same");
+        return Err(Failure::damaged(path, said));
+    }
     let answer = page_index::mend(&mut words, allowance);
     stored(out, path, &words, answer)
 }

@@ -1,6 +1,7 @@
 //! `find`: where a key is looked for, word by word.
 use crate::calls::Ended;
 use crate::failure::{Failure, Outcome};
+use crate::mending::changed_by_mend;
 use crate::reading::{bucket, directory_bits, folded, Damage, Entry, Shape, Slot, State};
 use page_index::{Refusal, Refused};
 use std::io::Write;
@@ -85,7 +86,10 @@ pub fn find(out: &mut dyn Write, path: &str, words: &[u64], key: u64) -> Ended {
     // A get looks at no other entry. That the directory is damaged elsewhere is told all the same.
     let blocks = shape.blocks(words).map_err(|damage| Failure::damaged(path, format!("elsewhere {damage}")))?;
     if blocks.iter().any(|block| block.unequal > 0) {
-        writeln!(out, "the index awaits mending, which changes no answer")?;
+        writeln!(out, "the index awaits mending")?;
     }
-    Ok(outcome)
+    match changed_by_mend(words, &shape, &blocks) {
+        0 => Ok(outcome),
+        changed => Err(Failure::damaged(path, format!("damaged: lookups that a mend changes: {changed}"))),
+    }
 }

@@ -4,6 +4,7 @@ mod calls;
 mod diff;
 mod failure;
 mod find;
+mod mending;
 mod numbers;
 mod progress;
 mod reading;
@@ -39,7 +40,7 @@ The calls, by the proved library on the mapped file:
   page-index put FILE KEY VALUE
   page-index put FILE -             the records of standard input, as list writes them
   page-index remove FILE KEY
-  page-index mend FILE
+  page-index mend FILE              refused where lookups would change, by damage; --force mends all the same
   page-index merge FILE KEY         --all in place of KEY: until nothing merges
   page-index list FILE              key, a tab, value; a line for each record
   --allowance N                     with format, put, remove, mend, merge: the stores that the call may make
@@ -127,9 +128,9 @@ fn calling(out: &mut dyn Write, command: &str, mut given: Arguments) -> Ended {
             calls::remove(out, &path, number_of("KEY", &key)?, allowance)
         }
         "mend" => {
-            let allowance = given.allowance()?;
+            let (force, allowance) = (given.flag("--force"), given.allowance()?);
             let [path] = given.others("FILE")?;
-            calls::mend(out, &path, allowance)
+            calls::mend(out, &path, force, allowance)
         }
         "merge" => merging(out, given),
         _ => {

@@ -192,6 +192,11 @@ impl Shape {
         (0..SLOTS).map(|number| self.slot(words, block, number))
     }
 
+    /// The first slot of the key's window, in the block's segment, that has the key.
+    pub fn first_with(&self, words: &[u64], block: &Block, key: u64) -> Option<usize> {
+        Shape::window(key).find(|number| self.slot(words, block, *number).key == key)
+    }
+
     /// The numbers of the sixteen slots of the key's window, in the order of the search.
     pub fn window(key: u64) -> impl Iterator<Item = usize> {
         (0..WINDOW_BUCKETS * BUCKET_SLOTS).map(move |i| (BUCKET_SLOTS * bucket(key) + i) % SLOTS)

@@ -1,6 +1,7 @@
 //! `stat`: the shape of an index, how full it is, and whether it is mended.
 use crate::calls::Ended;
 use crate::failure::{Failure, Outcome};
+use crate::mending::changed_by_mend;
 use crate::numbers::counted;
 use crate::reading::{Block, Shape, Slot, State, SLOTS};
 use std::collections::BTreeSet;
@@ -22,7 +23,7 @@ fn count(words: &[u64], shape: &Shape, blocks: &[Block]) -> Counts {
 
 /// The live records that no lookup finds: they stand outside their key's window, or behind the same key.
 pub fn strays(words: &[u64], shape: &Shape, blocks: &[Block]) -> usize {
-    let first = |block, key| Shape::window(key).find(|number| shape.slot(words, block, *number).key == key);
+    let first = |block, key| shape.first_with(words, block, key);
     let stray = |block, slot: &Slot| slot.state == State::Live && first(block, slot.key) != Some(slot.number);
     blocks.iter().map(|block| shape.slots(words, block).filter(|slot| stray(block, slot)).count()).sum()
 }
@@ -83,9 +84,16 @@ fn say_records(out: &mut dyn Write, words: &[u64], shape: &Shape, blocks: &[Bloc
 pub fn unnoticed(words: &[u64], shape: &Shape, blocks: &[Block]) -> Option<String> {
     let segments: BTreeSet<usize> = blocks.iter().map(|block| block.entry.segment).collect();
     let shared = blocks.len() - segments.len();
-    let stray = strays(words, shape, blocks);
-    let said = format!("segments that two blocks name: {shared}; live records that no lookup finds: {stray}");
-    (shared + stray > 0).then_some(said)
+    let damage: Vec<String> = [
+        (shared, "segments that two blocks name"),
+        (strays(words, shape, blocks), "live records that no lookup finds"),
+        (changed_by_mend(words, shape, blocks), "lookups that a mend changes"),
+    ]
+    .into_iter()
+    .filter(|(number, _)| *number > 0)
+    .map(|(number, what)| format!("{what}: {number}"))
+    .collect();
+    (!damage.is_empty()).then(|| damage.join("; "))
 }
 
 pub fn stat(out: &mut dyn Write, path: &str, words: &[u64]) -> Ended {
