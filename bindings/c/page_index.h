@@ -82,7 +82,7 @@
  * From then on a page is kept once its put has answered PAGE_INDEX_DONE. With PAGE_INDEX_ALL, and if
  * nobody else writes the words, put answers 0, 2, 5 or 6, get and remove 0, 2 or 255, merge 0, 2, 14 or
  * 15, list 0 or 10, list block 0, 10 or 16. Any other code means that somebody else has written, or
- * damage: stop.
+ * damage: at 1 and 3 stop; before a mend at 4 see DAMAGE, below.
  *
  * IN A FILE
  *
@@ -114,9 +114,10 @@
  *
  * POWER CUTS
  *
- * A call makes its stores one whole word at a time, in a fixed order. If the power goes during a call, or
- * the process is killed, the array is as if the call had been given an allowance of just the stores that
- * were made; what follows holds after the code PAGE_INDEX_CUT_OFF too.
+ * A call makes its stores one whole word at a time, in a fixed order. If the power goes during a call, and
+ * the memory takes stores in that order, or if the process is killed, the array is as if the call had been
+ * given an allowance of just the stores that were made; what follows holds after the code
+ * PAGE_INDEX_CUT_OFF too.
  *   - Lookups are right at once. After a put, a remove, a merge or a mend that was cut off, page_index_get
  *     finds every page that was put and acknowledged, and says of every key what it says after the
  *     mending. The put or the remove that was cut off has changed nothing that a lookup sees; only if its
