@@ -95,12 +95,20 @@ static void start(uint64_t *words)
     fprintf(stderr, "formatted\n");
 }
 
+/* Whether a merge at the key is done. One that has nothing to join is not. */
+static int merges(uint64_t *words, uint64_t key)
+{
+    uint32_t code = page_index_merge(words, LEN, key, PAGE_INDEX_ALL).code;
+    if (code == PAGE_INDEX_NO_BUDDY || code == PAGE_INDEX_BOTH_LIVE) return 0;
+    if (code != PAGE_INDEX_DONE) stop("merge", said(code));
+    return 1;
+}
+
 /* Merges once at each entry of the directory, and answers how many segments came free. */
 static unsigned merge_each(uint64_t *words)
 {
     unsigned merged = 0;
-    for (uint64_t i = 0; i < (uint64_t)1 << DEPTH; i++)
-        merged += page_index_merge(words, LEN, 16 * i + 1, PAGE_INDEX_ALL).code == PAGE_INDEX_DONE;
+    for (uint64_t i = 0; i < (uint64_t)1 << DEPTH; i++) merged += merges(words, 16 * i + 1);
     return merged;
 }
 

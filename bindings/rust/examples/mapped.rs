@@ -23,17 +23,30 @@ fn start(words: &mut [u64]) -> Result<(), Refused> {
     Ok(())
 }
 
-/// Merges until nothing merges, and answers how many segments came free.
-fn merge_all(words: &mut [u64]) -> usize {
+/// Merges once at each entry of the directory, and answers how many segments came free.
+fn merge_each(words: &mut [u64]) -> Result<usize, Refused> {
+    let mut merged = 0;
+    for i in 0..1 << DEPTH {
+        match merge(words, 16 * i + 1, ALL) {
+            Ok(_) => merged += 1,
+            Err(Refused { refusal: Refusal::NoBuddy | Refusal::BothLive, .. }) => (),
+            Err(refused) => return Err(refused),
+        }
+    }
+    Ok(merged)
+}
+
+/// Merges until nothing merges.
+fn merge_all(words: &mut [u64]) -> Result<usize, Refused> {
     let mut merged = 0;
     loop {
-        let more = (0..1u64 << DEPTH).filter(|i| merge(words, 16 * i + 1, ALL).is_ok()).count();
-        if more == 0 {
-            eprintln!("merged: {merged} segments came free");
-            return merged;
+        match merge_each(words)? {
+            0 => break,
+            more => merged += more,
         }
-        merged += more;
     }
+    eprintln!("merged: {merged} segments came free");
+    Ok(merged)
 }
 
 /// A put, or a remove where there is no value; whether the page was there.
@@ -51,7 +64,7 @@ fn change_surely(words: &mut [u64], key: u64, value: Option<u64>) -> Result<bool
         mend(words, ALL)?;
         changed = change(words, key, value);
     }
-    if matches!(changed, Err(Refused { refusal: Refusal::NoSegment, .. })) && merge_all(words) > 0 {
+    if matches!(changed, Err(Refused { refusal: Refusal::NoSegment, .. })) && merge_all(words)? > 0 {
         changed = change(words, key, value);
     }
     changed
