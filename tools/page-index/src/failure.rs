@@ -34,7 +34,7 @@ Exit codes:
   0  done
   1  the key is absent; diff: the files differ
   2  wrong arguments
-  3  a file cannot be opened, locked, read or written
+  3  a file cannot be opened, locked, read or written; put: a line of standard input is no record
   4  no index, or a damaged one (replies 1 and 3, or seen by stat); nothing is written
   5  the index awaits mending (reply 4); nothing is written
   6  another refusal, which the message names";
