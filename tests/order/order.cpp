@@ -2,8 +2,7 @@
 // time; after every instruction the parent looks for words of the array that have changed. The
 // changes, in the order seen, must be the stores of the defined plan (by the twin, which the
 // comparison tests hold against the rules) that change a word, one for each instruction. The calls that
-// make no store, and merges and listings that are refused, run at full speed on an array that cannot be
-// written.
+// make no store, and calls that are refused, run at full speed on an array that cannot be written.
 #include "../../bindings/c/month_board.h"
 #include "../twin/twin.hpp"
 
@@ -365,6 +364,39 @@ bool merges_pass(word *shared) {
     return ends("merge", to_merge(), PAGE_INDEX_DONE) == "a store" && refused;
 }
 
+// A call that is refused, or has nothing to do, makes no store, not even of what is there already.
+bool refusals_pass(word *shared) {
+    auto put = [](word key, std::uint32_t allowance) {
+        return [=](word *w) { return page_index_put(w, size, key, 1, allowance); };
+    };
+    auto remove = [](word key) { return [=](word *w) { return page_index_remove(w, size, key, all); }; };
+    auto mend = [](word *w) { return page_index_mend(w, size, all); };
+    auto format = [](word depth, std::size_t length) {
+        return [=](word *w) { return page_index_format(w, length, depth, 4, all); };
+    };
+    Words empty(size), unmended = cut_split(76), broken = full(), one = formatted();
+    broken[1] = 4;
+    page_index_format(one.data(), size, 2, 1, all);
+    for (word i = 0; i < 16; i++) page_index_put(one.data(), size, 7 + 16 * i, 70, all);
+    auto ends = [=](const char *name, const Words &before, std::uint32_t code, const auto &call) {
+        return unwritable(name, shared, before, code, call) == (code == PAGE_INDEX_DONE ? "done" : "refused");
+    };
+    bool none = ends("put, no store", empty, PAGE_INDEX_NO_STORE, put(7, all));
+    none &= ends("put, no key", full(), PAGE_INDEX_NO_KEY, put(0, all));
+    none &= ends("put, broken", broken, PAGE_INDEX_BROKEN, put(7, all));
+    none &= ends("put, unmended", unmended, PAGE_INDEX_UNMENDED, put(7, all));
+    none &= ends("put, no segment", one, PAGE_INDEX_NO_SEGMENT, put(263, all));
+    none &= ends("put, none allowed", full(), PAGE_INDEX_CUT_OFF, put(7, 0));
+    none &= ends("remove, absent", full(), PAGE_INDEX_ABSENT, remove(8));
+    none &= ends("remove, unmended", unmended, PAGE_INDEX_UNMENDED, remove(7));
+    none &= ends("mend, no store", empty, PAGE_INDEX_NO_STORE, mend);
+    none &= ends("mend, broken", broken, PAGE_INDEX_BROKEN, mend);
+    none &= ends("mend, nothing to do", full(), PAGE_INDEX_DONE, mend);
+    none &= ends("format, bad shape", full(), PAGE_INDEX_BAD_SHAPE, format(1, size));
+    none &= ends("format, too short", full(), PAGE_INDEX_TOO_SHORT, format(2, size - 1));
+    return unwritable("put of a known page", shared, full(), PAGE_INDEX_DONE, put(7, all)) == "a store" && none;
+}
+
 }  // namespace
 
 int main() {
@@ -377,5 +409,6 @@ int main() {
     for (const Case &c : board_cases()) sound = passes(c, shared) && sound;
     sound = readers_pass(shared) && sound;
     sound = block_listings_pass(shared) && sound;
+    sound = refusals_pass(shared) && sound;
     return merges_pass(shared) && sound ? 0 : 1;
 }
