@@ -22,10 +22,11 @@
  *
  * CHOOSING SIZES AND KEYS
  *
- * Pages stand in segments, and the directory says in which: by G bits of the key, the directory bits, it
- * has 2^G entries, each with the number of a segment. Neighbouring entries with one segment are a block;
- * its keys agree in as many directory bits as its local depth says. G grows with the index, up to D. README
- * draws all of it, under 'The array of words'.
+ * Pages stand in segments, and the directory says in which: it has 2^G entries, each with the number of a
+ * segment. The bits of a key's folded key (below) from bit 4 on are its directory bits; the first G of them
+ * choose the entry. Neighbouring entries with one segment are a block; its keys agree in as many directory
+ * bits as its local depth says. G grows with the index, up to D. README draws all of it, under 'The array
+ * of words'.
  *
  * An index of largest directory depth D (2 to 12) with S segments (1 to 2^D) takes 2^(D+1) + 128 * S words
  * of eight bytes, PAGE_INDEX_WORDS(D, S). For 4 MiB, 524,288 words: D = 12, S = 4,032. A segment has 64
@@ -36,8 +37,8 @@
  * every put reads as much of it as is in use.
  *
  * Every number but 0 is a key, and every number a value. Where a key goes is taken from the low 4 + D bits
- * of its folded key, key ^ key / 1024: the low four bits choose the bucket, the others the segment, bit 4
- * first. Keys are folded, not hashed: of a key itself the low 14 + D bits count, and no others. If D is 12,
+ * of its folded key, key ^ key / 1024: the low four bits choose the bucket, the D directory bits the
+ * segment. Keys are folded, not hashed: of a key itself the low 14 + D bits count, and no others. If D is 12,
  * keys that agree in bits 0 to 25 share their sixteen slots for good, and the seventeenth of them is
  * refused. So number pages so that the low bits change: running numbers are good. Pages that an index of
  * 4 MiB takes, with keys in steps (the step, twice the step and so on), until a put is refused for the first
@@ -67,13 +68,16 @@
  *   1. Pass the whole memory, with the same `len` at each start; do not take it from word 0.
  *   2. If the memory is new, format it. It is new if word 0 is 0, as it is in a file made just now. A
  *      format stores 0 there first, and last the mark by which an index is known, so that one which was
- *      cut off is begun anew.
+ *      cut off is begun anew. (Memory that is no file may hold anything when it is new: who installs it
+ *      formats it, once, or stores 0 to word 0.)
  *   3. Else mend it, with PAGE_INDEX_ALL. At PAGE_INDEX_DONE it is ready. Its shape is that of word 0 (D
- *      in bits 8 to 15, S in bits 16 to 31), which nobody compares with yours.
+ *      in bits 8 to 15, S in bits 16 to 31), which nobody compares with yours. With an allowance of 0 a
+ *      mend makes no store, and answers 7 where there is something to mend.
  *   4. At any other code stop, and have somebody look at it (tools/page-index). Do not format.
  *      PAGE_INDEX_NO_STORE does not mean that nothing is there: it is also the answer to a damaged word 0
  *      and to a `len` that is too short. 'Mend; if that says 1, format' has wiped 1,000 pages, when the
- *      length was passed 1,024 words short. Format empties an index, whatever it held.
+ *      length was passed 1,024 words short and S computed from it. Format empties an index, whatever it
+ *      held.
  *
  *     reply = words[0] == 0 ? page_index_format(words, len, 12, 4032, PAGE_INDEX_ALL)
  *                           : page_index_mend(words, len, PAGE_INDEX_ALL);
@@ -88,8 +92,9 @@
  *
  * An index may stand in a file that is mapped. What was stored is then in the file also if the process is
  * killed at any instruction; nothing has to be done at the end, and no page that was acknowledged is lost.
- *   1. open(O_RDWR | O_CREAT), and flock(LOCK_EX | LOCK_NB): one process at a time. The lock is held as
- *      long as the descriptor is open. tools/page-index takes it too, also to look.
+ *   1. open(path, O_RDWR | O_CREAT, 0666), and flock(fd, LOCK_EX | LOCK_NB): one process at a time. Where
+ *      another has the lock: stop. It is held as long as the descriptor is open. tools/page-index takes it
+ *      too, also to look.
  *   2. fstat. A file of no bytes is new, or its maker was killed here: ftruncate gives it 8 * len bytes,
  *      and they are 0. A file of any other length but 8 * len bytes: stop.
  *   3. posix_fallocate, at each start: it takes the space on the disk, and changes no byte (its error is
@@ -126,29 +131,33 @@
  *     answers PAGE_INDEX_DONE. Before that they answer PAGE_INDEX_UNMENDED (PAGE_INDEX_NO_KEY for key 0)
  *     and change nothing, if there is something to mend; if there is not, they do what they always do.
  *   - A format that was cut off is begun anew. From its first store to its last every other call answers
- *     PAGE_INDEX_NO_STORE.
+ *     PAGE_INDEX_NO_STORE (the month board its 11 to 13 before that).
  *
  * DAMAGE
  *
  * The array has no checksum, and what is said here of pages holds for words that these calls alone have
  * written. Noticed are a word 0 that no index has (1) and a directory whose blocks do not fit together (3;
- * a get looks at its own entry alone). Another depth G that is possible, another segment in an entry,
- * another key or value are not: a mend answers PAGE_INDEX_DONE, pages are absent, and puts may overwrite
- * them. A local depth that became smaller, in the entry where a block begins, looks like a split that was
- * cut off: the calls answer 4, the mend overwrites entries, and pages are absent that a get still found.
- * Where memory can be damaged keep copies, or a sum of the listing, and copy the words before a mend.
- * tools/page-index stat tells some damage of this kind, and its mend is not made where a lookup would change.
- * Where only files that are new are ever formatted, all words of one are 0 until its format is done: a
- * program may format only where all are 0, so that damage which makes word 0 alone 0 costs no page.
+ * a get looks at its own entry alone). Not noticed are another G, D or S that is possible, another segment
+ * in a block of one entry, another key or value: a mend answers PAGE_INDEX_DONE, pages are absent, and puts
+ * may overwrite them. Other changes of an entry look like a call that was cut off: put, remove, merge and
+ * the lists answer 4. If it is the first entry of a block, the mend writes it over the block, and pages are
+ * absent that a get still found; if it is another one, the mend puts it right. Where memory can be damaged
+ * keep copies, or a sum of the listing, and copy the words before a mend. tools/page-index stat tells some
+ * damage of these kinds, and its mend is not made where a lookup would change.
+ *
+ * In a file that is formatted for the first time all words stay 0 to the last store of the format. So a
+ * program that formats new files alone can ask for all words to be 0, and not word 0 alone, before it
+ * formats: damage that makes word 0 alone 0 costs no page then.
  *
  * ALLOWANCES
  *
  * The calls that store take the number of stores that they may make. Pass PAGE_INDEX_ALL: no call needs
  * more than 9,764. A smaller allowance does what a power cut after so many stores does, so that a program
- * can be tested without one: the call answers PAGE_INDEX_CUT_OFF where more are due. After that code mend
- * before anything is changed, then make the put or the remove again. (A merge the mend may have finished:
- * made again it joins the next pair, or answers 14.) Allowances do not cut a long call into short ones:
- * only a mend goes on where it was cut off, a put begins its split again.
+ * can be tested without one: the call answers PAGE_INDEX_CUT_OFF where more are due. After that code make
+ * a format again; after any other call mend before anything is changed, then make the put or the remove
+ * again. (A merge the mend may have finished: made again it joins the next pair, or answers 14 or 15.)
+ * Allowances do not cut a long call into short ones: only a mend goes on where it was cut off, a put begins
+ * its split again.
  *
  * HOW LARGE A LIST ARRAY
  *
@@ -255,8 +264,9 @@ struct page_index_reply page_index_put(uint64_t *words, size_t len, uint64_t key
 struct page_index_reply page_index_remove(uint64_t *words, size_t len, uint64_t key, uint32_t allowance);
 
 /*
- * Takes back what a split that was cut off has left in the directory, and finishes a merge that was cut
- * off with its first entry stored; a merge that was cut off before that has left the directory as it was.
+ * Takes back what a split that was cut off has left in the entries of the directory (one that it doubled
+ * stays doubled), and finishes a merge that was cut off with its first entry stored; a merge that was cut
+ * off before that has left the directory as it was.
  * No lookup's answer changes, whether the mend is whole or cut off, if the words are not damaged. With
  * nothing to do it makes no store, so it may be called at every start. At most 4,096 stores. Codes: 0, 1, 3, 7.
  */
@@ -270,7 +280,8 @@ struct page_index_reply page_index_mend(uint64_t *words, size_t len, uint32_t al
  *
  * One call joins one pair. The new block may have a buddy as well. To merge all there is, call it for the
  * keys 16 * i + 1, i from 0 to 2^D - 1, which lead to all entries, again and again until a whole round
- * answers nothing but 14 and 15. A round takes some milliseconds. Codes: 0, 1 to 4, 7, 14, 15.
+ * answers nothing but 14 and 15. In 4 MiB a round takes some ten to thirty milliseconds. Codes: 0, 1 to
+ * 4, 7, 14, 15.
  */
 struct page_index_reply page_index_merge(uint64_t *words, size_t len, uint64_t key, uint32_t allowance);
 

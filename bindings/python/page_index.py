@@ -305,10 +305,11 @@ def remove(words, key, allowance=ALL):
 
 
 def mend(words, allowance=ALL):
-    """Takes back what a split that was cut off has left in the directory, finishes a merge that was cut off
-    with its first entry stored, and answers the number of stores: 0 where there was nothing to do, at most
-    4,096. A merge that was cut off before that has left the directory as it was. No lookup's answer
-    changes, whether the mend is whole or cut off, if the words are not damaged.
+    """Takes back what a split that was cut off has left in the entries of the directory (one that it
+    doubled stays doubled), finishes a merge that was cut off with its first entry stored, and answers the
+    number of stores: 0 where there was nothing to do, at most 4,096. A merge that was cut off before that
+    has left the directory as it was. No lookup's answer changes, whether the mend is whole or cut off, if
+    the words are not damaged.
 
     Refused with NO_STORE, BROKEN, CUT_OFF."""
     return _call(_mend, words, _allowance(allowance)).stores

@@ -315,10 +315,10 @@ pub fn remove(words: &mut [u64], key: u64, allowance: u32) -> Result<Option<u32>
     answered(reply).map(|done| done.map(|reply| reply.stores))
 }
 
-/// Takes back what a split that was cut off has left in the directory, finishes a merge that was cut off
-/// with its first entry stored, and answers the number of stores: 0 where there was nothing to do, at most
-/// 4,096. A merge that was cut off before that has left the directory as it was. No lookup's answer changes,
-/// whether the mend is whole or cut off, if the words are not damaged.
+/// Takes back what a split that was cut off has left in the entries of the directory (one that it doubled stays
+/// doubled), finishes a merge that was cut off with its first entry stored, and answers the number of stores: 0 where
+/// there was nothing to do, at most 4,096. A merge that was cut off before that has left the directory as it was. No
+/// lookup's answer changes, whether the mend is whole or cut off, if the words are not damaged.
 pub fn mend(words: &mut [u64], allowance: u32) -> Result<u32, Refused> {
     // SAFETY: as in `format`.
     stores(unsafe { page_index_mend(words.as_mut_ptr(), words.len(), allowance) })

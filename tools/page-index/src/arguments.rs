@@ -56,7 +56,7 @@ impl Arguments {
     /// The other arguments, which must be so many, once every option is taken out.
     pub fn others<const COUNT: usize>(self, names: &str) -> Result<[String; COUNT], Failure> {
         if let Some((option, _)) = self.options.first() {
-            return Err(Failure::Usage(format!("{} has no option {option}", self.command)));
+            return Err(Failure::Usage(format!("{} {names} has no option {option}", self.command)));
         }
         self.others.try_into().map_err(|_| Failure::Usage(format!("{} takes {names}", self.command)))
     }

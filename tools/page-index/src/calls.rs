@@ -7,7 +7,6 @@ use crate::reading::Shape;
 use page_index::mapped::{MappedFile, MappedFileMut};
 use page_index::{list_block, Refusal, Refused, ALL, BLOCK_WORDS};
 use std::io::{BufRead, Write};
-use std::path::Path;
 
 pub type Ended = Result<Outcome, Failure>;
 
@@ -30,10 +29,10 @@ fn stored(out: &mut dyn Write, path: &str, words: &[u64], answer: Result<u32, Re
     Ok(Outcome::Done)
 }
 
-/// The words for a new index: those of a file that is there, and whose word 0 is 0 or which may be emptied; else of
-/// a file that is made, with just the words that this shape takes.
+/// The words for a new index: those of a file that is there, and whose word 0 is 0 or which may be emptied. A file that
+/// is not there is made, and one of no bytes gets a length: just the words that this shape takes.
 fn open_to_format(path: &str, depth: u64, segments: u64, force: bool) -> Result<MappedFileMut, Failure> {
-    if Path::new(path).exists() {
+    if std::fs::metadata(path).is_ok_and(|file| file.len() > 0) {
         let words = open_to_change(path)?;
         if !force && words.first().is_some_and(|word| *word != 0) {
             return Err(Failure::Refused(format!(

@@ -32,10 +32,10 @@ pub enum Failure {
 pub const EXIT_CODES: &str = "\
 Exit codes:
   0  done
-  1  the key is absent; diff: the files differ
+  1  the key is absent; diff: the records differ, with --words the words
   2  wrong arguments
   3  a file cannot be opened, locked, read or written; put: a line of standard input is no record
-  4  no index, or a damaged one (replies 1 and 3, or seen by stat); nothing is written
+  4  no index, or a damaged one: replies 1 and 3, and what stat, find and mend see; nothing is written
   5  the index awaits mending (reply 4); nothing is written
   6  another refusal, which the message names";
 
@@ -105,12 +105,14 @@ fn reason(refusal: Refusal) -> &'static str {
         Refusal::NoStore => "no store",
         Refusal::NoKey => "no key: 0 is none",
         Refusal::Broken => "broken: the directory is damaged",
-        Refusal::Unmended => "unmended: a call was cut off, mend first",
+        Refusal::Unmended => "unmended: a call was cut off, or an entry is damaged, which stat tells; mend first",
         Refusal::TooDeep => {
             "too deep: the pages in this key's slots share every directory bit; other keys may find room"
         }
         Refusal::NoSegment => "no segment: the index is full here; remove pages and merge, or take more segments",
-        Refusal::CutOff => "cut off: more stores were due than allowed; mend, then call again",
+        Refusal::CutOff => {
+            "cut off: more stores were due than allowed; a format is made again, after any other call mend first"
+        }
         Refusal::BadShape => "bad shape: D is 2 to 12, S is 1 to 2^D",
         Refusal::TooShort => "too short: the file has fewer than 2^(D+1) + 128 * S words",
         Refusal::ShortList => "short list",

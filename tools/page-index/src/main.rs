@@ -35,7 +35,8 @@ Looking (nothing is written to FILE):
              --words                the words that differ, and what each is
 
 The calls, by the proved library on the mapped file:
-  page-index format FILE D S        an empty index; FILE is made if it is not there. --force empties an index
+  page-index format FILE D S        an empty index; a FILE that is not there, or empty, gets its length.
+                                    --force empties an index
   page-index get FILE KEY
   page-index put FILE KEY VALUE
   page-index put FILE -             the records of standard input, as list writes them
@@ -43,7 +44,7 @@ The calls, by the proved library on the mapped file:
   page-index mend FILE              refused where lookups would change, by damage; --force mends all the same
   page-index merge FILE KEY         --all in place of KEY: until nothing merges
   page-index list FILE              key, a tab, value; a line for each record
-  --allowance N                     with format, put, remove, mend, merge: the stores that the call may make
+  --allowance N                     the stores that format, put, remove, mend or merge may make; not with - and --all
 
 Numbers are decimal, or hexadecimal behind 0x. A file is locked meanwhile (flock).
 ";
@@ -89,24 +90,23 @@ fn draw(path: &str, words: &[u64], picture: &str) -> Ended {
 
 /// A put of one record, or of those of standard input.
 fn putting(out: &mut dyn Write, mut given: Arguments) -> Ended {
-    const TAKES: &str = "FILE KEY VALUE, or FILE -";
     if given.is_last("-") {
-        let [path, _] = given.others(TAKES)?;
+        let [path, _] = given.others("FILE -")?;
         return calls::put_lines(out, &path, io::stdin().lock());
     }
     let allowance = given.allowance()?;
-    let [path, key, value] = given.others(TAKES)?;
+    let [path, key, value] = given.others("FILE KEY VALUE")?;
     calls::put(out, &path, number_of("KEY", &key)?, number_of("VALUE", &value)?, allowance)
 }
 
 /// One merge, or all that there are.
 fn merging(out: &mut dyn Write, mut given: Arguments) -> Ended {
     if given.flag("--all") {
-        let [path] = given.others("FILE KEY, or FILE --all")?;
+        let [path] = given.others("FILE --all")?;
         return calls::merge_all(out, &path);
     }
     let allowance = given.allowance()?;
-    let [path, key] = given.others("FILE KEY, or FILE --all")?;
+    let [path, key] = given.others("FILE KEY")?;
     calls::merge(out, &path, number_of("KEY", &key)?, allowance)
 }
 

@@ -80,7 +80,7 @@ fn say_records(out: &mut dyn Write, words: &[u64], shape: &Shape, blocks: &[Bloc
     say_load(out, shape, &loads)
 }
 
-/// Damage that no call refuses, if there is any: what no run of calls leaves.
+/// Damage that no call takes for such, if there is any: what no run of calls leaves.
 pub fn unnoticed(words: &[u64], shape: &Shape, blocks: &[Block]) -> Option<String> {
     let segments: BTreeSet<usize> = blocks.iter().map(|block| block.entry.segment).collect();
     let shared = blocks.len() - segments.len();
@@ -110,6 +110,6 @@ pub fn stat(out: &mut dyn Write, path: &str, words: &[u64]) -> Ended {
     }
     match unnoticed(words, &shape, &blocks) {
         None => Ok(Outcome::Done),
-        Some(damage) => Err(Failure::damaged(path, format!("damaged, and no call refuses it: {damage}"))),
+        Some(damage) => Err(Failure::damaged(path, format!("damaged, as no call leaves it: {damage}"))),
     }
 }
