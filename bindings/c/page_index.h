@@ -8,7 +8,7 @@
  *
  * The library needs memcpy and memset from the C library, and nothing else. It uses no heap, keeps no
  * state of its own between calls, and a call uses less than 8,192 bytes of stack. example.c, beside this
- * file, makes each call once; mapped_example.c keeps pages in a file, with every code answered.
+ * file, makes every call; mapped_example.c keeps pages in a file, with every code answered.
  *
  * WHAT THE CALLER OWES, for every call:
  *   - `words` points to `len` words, aligned to eight bytes, that nobody else writes during the call.

@@ -160,7 +160,8 @@ use std::fmt;
 /// An allowance that cuts no call off.
 pub const ALL: u32 = u32::MAX;
 
-/// The words that an index of largest directory depth `depth` with `segments` segments takes.
+/// The words that an index of largest directory depth `depth` with `segments` segments takes, a shape that [`format()`]
+/// does not refuse.
 pub const fn words_for(depth: u32, segments: usize) -> usize {
     (2 << depth) + 128 * segments
 }

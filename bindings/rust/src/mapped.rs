@@ -61,6 +61,11 @@ impl Mapping {
             None => Err(Error::last_os_error()),
         }
     }
+
+    fn words(&self) -> &[u64] {
+        // SAFETY: so many words are mapped there until the drop; who maps them sees to it that nobody else writes them.
+        unsafe { std::slice::from_raw_parts(self.at.as_ptr(), self.len) }
+    }
 }
 
 impl Drop for Mapping {
@@ -100,8 +105,7 @@ impl Deref for MappedFile {
     type Target = [u64];
 
     fn deref(&self) -> &[u64] {
-        // SAFETY: so many words are mapped there until the drop; `open` asks that nobody writes them.
-        unsafe { std::slice::from_raw_parts(self.0.at.as_ptr(), self.0.len) }
+        self.0.words()
     }
 }
 
@@ -153,14 +157,13 @@ impl Deref for MappedFileMut {
     type Target = [u64];
 
     fn deref(&self) -> &[u64] {
-        // SAFETY: as in `MappedFile`.
-        unsafe { std::slice::from_raw_parts(self.0.at.as_ptr(), self.0.len) }
+        self.0.words()
     }
 }
 
 impl DerefMut for MappedFileMut {
     fn deref_mut(&mut self) -> &mut [u64] {
-        // SAFETY: as in `MappedFile`; the mapping may be written, and is borrowed as mutable.
+        // SAFETY: as in `words`; the mapping may be written, and is borrowed as mutable.
         unsafe { std::slice::from_raw_parts_mut(self.0.at.as_ptr(), self.0.len) }
     }
 }

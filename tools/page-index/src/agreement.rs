@@ -5,16 +5,15 @@ use crate::reading::{Damage, Shape, State};
 use crate::stat::{strays, unnoticed};
 use page_index::{format, get, list, mend, merge, put, remove, words_for, Refusal, ALL};
 use std::collections::BTreeSet;
+use std::hash::{BuildHasher, BuildHasherDefault, DefaultHasher};
 
-/// Random numbers (xorshift64*), the same at every run.
+/// Random numbers, the same at every run.
 struct Random(u64);
 
 impl Random {
     fn next(&mut self) -> u64 {
-        self.0 ^= self.0 >> 12;
-        self.0 ^= self.0 << 25;
-        self.0 ^= self.0 >> 27;
-        self.0.wrapping_mul(0x2545_f491_4f6c_dd1d) >> 8
+        self.0 += 1;
+        BuildHasherDefault::<DefaultHasher>::default().hash_one(self.0)
     }
 
     fn below(&mut self, limit: u64) -> u64 {

@@ -12,7 +12,7 @@ pub type Ended = Result<Outcome, Failure>;
 
 /// The words of a file, to be looked at.
 pub fn open(path: &str) -> Result<MappedFile, Failure> {
-    // SAFETY: the lock keeps away every program that locks the file too; README tells operators so.
+    // SAFETY: the lock keeps away every program that locks the file too; --help and README tell operators so.
     unsafe { MappedFile::open(path) }.map_err(|error| Failure::file(path, error))
 }
 
@@ -29,17 +29,11 @@ fn stored(out: &mut dyn Write, path: &str, words: &[u64], answer: Result<u32, Re
     Ok(Outcome::Done)
 }
 
-/// The words for a new index: those of a file that is there, and whose word 0 is 0 or which may be emptied. A file that
-/// is not there is made, and one of no bytes gets a length: just the words that this shape takes.
-fn open_to_format(path: &str, depth: u64, segments: u64, force: bool) -> Result<MappedFileMut, Failure> {
+/// The words for a new index. A file that is not there is made, and one of no bytes gets a length: just the words that
+/// this shape takes.
+fn open_to_format(path: &str, depth: u64, segments: u64) -> Result<MappedFileMut, Failure> {
     if std::fs::metadata(path).is_ok_and(|file| file.len() > 0) {
-        let words = open_to_change(path)?;
-        if !force && words.first().is_some_and(|word| *word != 0) {
-            return Err(Failure::Refused(format!(
-                "{path}: word 0 is not 0, and a format empties what is there; --force does it"
-            )));
-        }
-        return Ok(words);
+        return open_to_change(path);
     }
     let len = page_index::words_for(depth as u32, segments as usize);
     // SAFETY: as in `open`.
@@ -53,7 +47,12 @@ pub fn format(out: &mut dyn Write, path: &str, (depth, segments): (u64, u64), fo
     if let Some(refused) = shape {
         return Err(Failure::refused(path, &[], refused));
     }
-    let mut words = open_to_format(path, depth, segments, force)?;
+    let mut words = open_to_format(path, depth, segments)?;
+    // Whether the memory is new is told by its words, once nobody else can write them.
+    if !force && words.first().is_some_and(|word| *word != 0) {
+        let said = "word 0 is not 0, and a format empties what is there; --force does it";
+        return Err(Failure::Refused(format!("{path}: {said}")));
+    }
     let answer = page_index::format(&mut words, depth, segments, allowance);
     stored(out, path, &words, answer)
 }
@@ -85,9 +84,9 @@ pub fn put_lines(out: &mut dyn Write, path: &str, lines: impl BufRead) -> Ended 
     let mut pages = 0;
     for line in lines.lines() {
         let line = line.map_err(|error| Failure::file("standard input", error))?;
-        let at = format!("{path}, line {} of standard input", pages + 1);
-        let (key, value) = record(&line).ok_or_else(|| Failure::file(&at, "not a key and a value"))?;
-        page_index::put(&mut words, key, value, ALL).map_err(|refused| Failure::refused(&at, &words, refused))?;
+        let at = || format!("{path}, line {} of standard input", pages + 1);
+        let (key, value) = record(&line).ok_or_else(|| Failure::file(&at(), "not a key and a value"))?;
+        page_index::put(&mut words, key, value, ALL).map_err(|refused| Failure::refused(&at(), &words, refused))?;
         pages += 1;
         progress.step();
     }

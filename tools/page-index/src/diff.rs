@@ -1,29 +1,22 @@
 //! `diff`: two files compared, by record, or word by word.
 use crate::calls::Ended;
+use crate::dump::Dump;
 use crate::failure::{Failure, Outcome};
 use crate::numbers::counted;
 use crate::progress::Progress;
 use crate::reading::{Block, Entry, Shape, Slot, State, SEGMENT_WORDS};
-use crate::show;
 use std::collections::BTreeMap;
 use std::io::{self, Write};
 
-/// One of the two files.
-pub struct Side<'a> {
-    pub path: &'a str,
-    pub words: &'a [u64],
-}
-
-/// Where the live records of a key stand, by its word, and their values: one, but in an index that lookups and listing
-/// disagree about.
+/// The slots that hold a key live: one, but in a damaged index, where a listing may have a key twice.
 type Records = BTreeMap<u64, Vec<Slot>>;
 
-fn records(side: &Side) -> Result<Records, Failure> {
-    let (shape, blocks) = show::read(side.path, side.words)?;
+fn records(dump: &Dump) -> Result<Records, Failure> {
+    let (shape, blocks) = dump.read()?;
     let mut progress = Progress::new("blocks read");
     let mut records = Records::new();
     for block in &blocks {
-        for slot in shape.slots(side.words, block).filter(|slot| slot.state == State::Live) {
+        for slot in shape.slots(dump.words, block).filter(|slot| slot.state == State::Live) {
             records.entry(slot.key).or_default().push(slot);
         }
         progress.step();
@@ -32,10 +25,10 @@ fn records(side: &Side) -> Result<Records, Failure> {
 }
 
 /// Says whether the file awaits mending: its records are then those of after it.
-fn say_mending(out: &mut dyn Write, side: &Side) -> Result<(), Failure> {
-    let (_, blocks) = show::read(side.path, side.words)?;
+fn say_mending(out: &mut dyn Write, dump: &Dump) -> Result<(), Failure> {
+    let (_, blocks) = dump.read()?;
     if blocks.iter().any(|block| block.unequal > 0) {
-        writeln!(out, "{} awaits mending", side.path)?;
+        writeln!(out, "{} awaits mending", dump.path)?;
     }
     Ok(())
 }
@@ -53,17 +46,17 @@ fn said(slots: &[Slot]) -> String {
     values(slots).iter().map(u64::to_string).collect::<Vec<_>>().join(" and ")
 }
 
-/// Says the records of a side whose keys the other has not, and answers how many there are.
-fn say_only(out: &mut dyn Write, side: &Side, records: &Records, others: &Records) -> io::Result<usize> {
+/// Says the records of a file whose keys the other has not, and answers how many there are.
+fn say_only(out: &mut dyn Write, dump: &Dump, records: &Records, others: &Records) -> io::Result<usize> {
     let only: Vec<_> = records.iter().filter(|(key, _)| !others.contains_key(key)).collect();
     for (key, slots) in &only {
-        writeln!(out, "only in {}: key {key}, value {}", side.path, said(slots))?;
+        writeln!(out, "only in {}: key {key}, value {}", dump.path, said(slots))?;
     }
     Ok(only.len())
 }
 
-/// Says the keys of both sides that have other values, and answers how many there are.
-fn say_other(out: &mut dyn Write, a: &Side, b: &Side, both: &[(u64, &[Slot], &[Slot])]) -> io::Result<usize> {
+/// Says the keys of both files that have other values, and answers how many there are.
+fn say_other(out: &mut dyn Write, a: &Dump, b: &Dump, both: &[(u64, &[Slot], &[Slot])]) -> io::Result<usize> {
     let other: Vec<_> = both.iter().filter(|(_, slots, others)| values(slots) != values(others)).collect();
     for (key, slots, others) in &other {
         writeln!(out, "another value: key {key}, {} in {}, {} in {}", said(slots), a.path, said(others), b.path)?;
@@ -72,7 +65,7 @@ fn say_other(out: &mut dyn Write, a: &Side, b: &Side, both: &[(u64, &[Slot], &[S
 }
 
 /// Compares the live records of both, and says which differ.
-pub fn by_record(out: &mut dyn Write, a: &Side, b: &Side) -> Ended {
+pub fn by_record(out: &mut dyn Write, a: &Dump, b: &Dump) -> Ended {
     let (in_a, in_b) = (records(a)?, records(b)?);
     say_mending(out, a)?;
     say_mending(out, b)?;
@@ -91,7 +84,7 @@ pub fn by_record(out: &mut dyn Write, a: &Side, b: &Side) -> Ended {
 }
 
 /// Says how many of the same records stand in other places, and whether other words differ.
-fn same_records(out: &mut dyn Write, a: &Side, b: &Side, records: usize, moved: usize) -> Ended {
+fn same_records(out: &mut dyn Write, a: &Dump, b: &Dump, records: usize, moved: usize) -> Ended {
     let places = match (moved, differing(a, b).count()) {
         (0, 0) => "word for word".to_string(),
         (0, words) => format!("in the same places; other words that differ: {words}"),
@@ -103,12 +96,12 @@ fn same_records(out: &mut dyn Write, a: &Side, b: &Side, records: usize, moved: 
 }
 
 /// The words of both files that differ.
-fn differing<'a>(a: &'a Side, b: &'a Side) -> impl Iterator<Item = usize> + 'a {
+fn differing<'a>(a: &'a Dump, b: &'a Dump) -> impl Iterator<Item = usize> + 'a {
     (0..a.words.len().min(b.words.len())).filter(|at| a.words[*at] != b.words[*at])
 }
 
 /// Says which file has more words, if one has.
-fn longer(out: &mut dyn Write, a: &Side, b: &Side) -> io::Result<()> {
+fn longer(out: &mut dyn Write, a: &Dump, b: &Dump) -> io::Result<()> {
     let (longer, shorter) = if a.words.len() > b.words.len() { (a, b) } else { (b, a) };
     match longer.words.len() - shorter.words.len() {
         0 => Ok(()),
@@ -118,20 +111,20 @@ fn longer(out: &mut dyn Write, a: &Side, b: &Side) -> io::Result<()> {
 
 /// What the words of a file are.
 struct Names<'a> {
-    side: &'a Side<'a>,
+    dump: &'a Dump<'a>,
     shape: Shape,
     /// The block of each segment, where the directory is not damaged and has one.
     blocks: Vec<Option<Block>>,
 }
 
 impl<'a> Names<'a> {
-    fn new(side: &'a Side) -> Result<Names<'a>, Failure> {
-        let shape = Shape::read(side.words).map_err(|damage| Failure::damaged(side.path, damage))?;
+    fn new(dump: &'a Dump) -> Result<Names<'a>, Failure> {
+        let shape = dump.shape()?;
         let mut blocks = vec![None; shape.segments];
-        for block in shape.blocks(side.words).unwrap_or_default() {
+        for block in shape.blocks(dump.words).unwrap_or_default() {
             blocks[block.entry.segment] = Some(block);
         }
-        Ok(Names { side, shape, blocks })
+        Ok(Names { dump, shape, blocks })
     }
 
     /// The segment and the number of the slot at a word, where the word is one of a segment.
@@ -158,9 +151,9 @@ impl<'a> Names<'a> {
 
     /// What stands there.
     fn content(&self, at: usize) -> String {
-        let word = self.side.words[at];
+        let word = self.dump.words[at];
         if let Some((segment, number)) = self.slot(at) {
-            let state = self.blocks[segment].map(|block| self.shape.slot(self.side.words, &block, number).state);
+            let state = self.blocks[segment].map(|block| self.shape.slot(self.dump.words, &block, number).state);
             return match state {
                 Some(State::Live) => format!("{word} (live)"),
                 Some(State::Stale) => format!("{word} (stale)"),
@@ -177,7 +170,7 @@ impl<'a> Names<'a> {
 }
 
 /// Says which words differ, and what each is.
-pub fn by_word(out: &mut dyn Write, a: &Side, b: &Side) -> Ended {
+pub fn by_word(out: &mut dyn Write, a: &Dump, b: &Dump) -> Ended {
     let (in_a, in_b) = (Names::new(a)?, Names::new(b)?);
     let mut words = 0usize;
     for at in differing(a, b) {
@@ -187,8 +180,8 @@ pub fn by_word(out: &mut dyn Write, a: &Side, b: &Side) -> Ended {
     writeln!(out, "{} and {}: words that differ: {words}", a.path, b.path)?;
     longer(out, a, b)?;
     // The words are told also where a directory is damaged, which is told behind them.
-    show::read(a.path, a.words)?;
-    show::read(b.path, b.words)?;
+    a.read()?;
+    b.read()?;
     Ok(if words == 0 && a.words.len() == b.words.len() { Outcome::Done } else { Outcome::No })
 }
 

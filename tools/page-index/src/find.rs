@@ -1,10 +1,11 @@
 //! `find`: where a key is looked for, word by word.
 use crate::calls::Ended;
+use crate::dump::Dump;
 use crate::failure::{Failure, Outcome};
 use crate::mending::changed_by_mend;
 use crate::reading::{bucket, directory_bits, folded, Damage, Entry, Shape, Slot, State};
 use page_index::{Refusal, Refused};
-use std::io::Write;
+use std::io::{self, Write};
 
 /// Where a key is looked for: its entry, and the sixteen slots of its window in the order of the search.
 pub struct Found {
@@ -47,49 +48,51 @@ fn bits(number: usize, count: u32) -> String {
     }
 }
 
-pub fn find(out: &mut dyn Write, path: &str, words: &[u64], key: u64) -> Ended {
-    let shape = Shape::read(words).map_err(|damage| Failure::damaged(path, damage))?;
-    if key == 0 {
-        return Err(Failure::refused(path, words, Refused { refusal: Refusal::NoKey, stores: 0 }));
-    }
-    let index = directory_bits(key, shape.depth);
-    writeln!(out, "key             {key} ({key:#x}), folded {} ({:#x})", folded(key), folded(key))?;
-    writeln!(
-        out,
-        "directory bits  {}, the first {} of the folded key from bit 4 on",
-        bits(index, shape.depth),
-        shape.depth
-    )?;
-    writeln!(out, "bucket          {}, by bits 0 to 3", bucket(key))?;
-    let found = Found::look(words, &shape, key).map_err(|damage| Failure::damaged(path, damage))?;
-    writeln!(out, "entry           {} at byte {}: {}", found.index, 8 * shape.entry_word(found.index), found.entry)?;
-    writeln!(
-        out,
-        "segment         {} from byte {} on",
-        found.entry.segment,
-        8 * shape.segment_word(found.entry.segment)
-    )?;
+/// Says how the key leads to its entry and to its segment.
+fn say_way(out: &mut dyn Write, shape: &Shape, key: u64, found: &Found) -> io::Result<()> {
+    let (entry, segment) = (found.entry, found.entry.segment);
+    writeln!(out, "entry           {} at byte {}: {entry}", found.index, 8 * shape.entry_word(found.index))?;
+    writeln!(out, "segment         {segment} from byte {} on", 8 * shape.segment_word(segment))?;
     writeln!(out, "window          sixteen slots, in the order of the search")?;
     for slot in &found.window {
-        writeln!(out, "  slot {:2}  byte {:7}  {}", slot.number, 8 * slot.at, said(&found, slot, key))?;
+        writeln!(out, "  slot {:2}  byte {:7}  {}", slot.number, 8 * slot.at, said(found, slot, key))?;
     }
-    let outcome = match found.hit(key) {
+    Ok(())
+}
+
+/// Says what the search has found.
+fn say_hit(out: &mut dyn Write, hit: Option<&Slot>) -> io::Result<Outcome> {
+    match hit {
         Some(slot) => {
             writeln!(out, "found           value {}, at byte {}", slot.value, 8 * (slot.at + 1))?;
-            Outcome::Done
+            Ok(Outcome::Done)
         }
         None => {
             writeln!(out, "absent")?;
-            Outcome::No
+            Ok(Outcome::No)
         }
-    };
+    }
+}
+
+pub fn find(out: &mut dyn Write, dump: &Dump, key: u64) -> Ended {
+    let shape = dump.shape()?;
+    if key == 0 {
+        return Err(Failure::refused(dump.path, dump.words, Refused { refusal: Refusal::NoKey, stores: 0 }));
+    }
+    let (depth, index) = (shape.depth, directory_bits(key, shape.depth));
+    writeln!(out, "key             {key} ({key:#x}), folded {} ({:#x})", folded(key), folded(key))?;
+    writeln!(out, "directory bits  {}, the first {depth} of the folded key from bit 4 on", bits(index, depth))?;
+    writeln!(out, "bucket          {}, by bits 0 to 3", bucket(key))?;
+    let found = Found::look(dump.words, &shape, key).map_err(|damage| dump.damaged(damage))?;
+    say_way(out, &shape, key, &found)?;
+    let outcome = say_hit(out, found.hit(key))?;
     // A get looks at no other entry. That the directory is damaged elsewhere is told all the same.
-    let blocks = shape.blocks(words).map_err(|damage| Failure::damaged(path, format!("elsewhere {damage}")))?;
+    let blocks = shape.blocks(dump.words).map_err(|damage| dump.damaged(format!("elsewhere {damage}")))?;
     if blocks.iter().any(|block| block.unequal > 0) {
         writeln!(out, "the index awaits mending")?;
     }
-    match changed_by_mend(words, &shape, &blocks) {
+    match changed_by_mend(dump.words, &shape, &blocks) {
         0 => Ok(outcome),
-        changed => Err(Failure::damaged(path, format!("damaged: lookups that a mend changes: {changed}"))),
+        changed => Err(dump.damaged(format!("damaged: lookups that a mend changes: {changed}"))),
     }
 }

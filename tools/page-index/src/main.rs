@@ -2,6 +2,7 @@
 mod arguments;
 mod calls;
 mod diff;
+mod dump;
 mod failure;
 mod find;
 mod mending;
@@ -17,7 +18,7 @@ mod agreement;
 
 use arguments::{number_of, Arguments};
 use calls::{open, Ended};
-use diff::Side;
+use dump::Dump;
 use failure::{Failure, Outcome, EXIT_CODES};
 use std::io::{self, BufWriter, ErrorKind, Write};
 use std::process::ExitCode;
@@ -30,7 +31,7 @@ Looking (nothing is written to FILE):
   page-index find FILE KEY          where a key is looked for: entry, segment, the sixteen slots with byte offsets
   page-index show FILE              directory and segments, drawn as text
              --records              every record with its place, live or stale
-             --svg OUT              as a picture, written to OUT
+             --svg OUT              as a picture; OUT must not be there, or be a picture
   page-index diff A B               the records that differ
              --words                the words that differ, and what each is
 
@@ -53,38 +54,44 @@ fn looking(out: &mut dyn Write, command: &str, mut given: Arguments) -> Ended {
     match command {
         "stat" => {
             let [path] = given.others("FILE")?;
-            stat::stat(out, &path, &open(&path)?)
+            stat::stat(out, &Dump { path: &path, words: &open(&path)? })
         }
         "find" => {
             let [path, key] = given.others("FILE KEY")?;
             let key = number_of("KEY", &key)?;
-            find::find(out, &path, &open(&path)?, key)
+            find::find(out, &Dump { path: &path, words: &open(&path)? }, key)
         }
         "show" => {
             let (records, svg) = (given.flag("--records"), given.value("--svg"));
             let [path] = given.others("FILE")?;
-            let words = open(&path)?;
+            let dump = Dump { path: &path, words: &open(&path)? };
             match svg {
-                Some(picture) => draw(&path, &words, &picture),
-                None if records => show::records(out, &path, &words),
-                None => show::show(out, &path, &words),
+                Some(_) if records => Err(Failure::Usage("show takes --records or --svg, not both".to_string())),
+                Some(picture) => draw(&dump, &picture),
+                None if records => show::records(out, &dump),
+                None => show::show(out, &dump),
             }
         }
         _ => {
             let by_word = given.flag("--words");
             let [a, b] = given.others("A B")?;
             let (in_a, in_b) = (open(&a)?, open(&b)?);
-            let (a, b) = (Side { path: &a, words: &in_a }, Side { path: &b, words: &in_b });
+            let (a, b) = (Dump { path: &a, words: &in_a }, Dump { path: &b, words: &in_b });
             let compare = if by_word { diff::by_word } else { diff::by_record };
             compare(out, &a, &b)
         }
     }
 }
 
-/// Writes the picture of an index to a file. A damaged index has none, and no file is made.
-fn draw(path: &str, words: &[u64], picture: &str) -> Ended {
-    let (shape, blocks) = show::read(path, words)?;
-    std::fs::write(picture, svg::picture(&shape, words, &blocks)).map_err(|error| Failure::file(picture, error))?;
+/// Writes the picture of an index to a file. A damaged index has none, and no file is made. A file that is there is
+/// replaced only if it is a picture: it may be an index, this one too.
+fn draw(dump: &Dump, picture: &str) -> Ended {
+    let (shape, blocks) = dump.read()?;
+    if std::fs::read(picture).is_ok_and(|bytes| !bytes.is_empty() && !bytes.starts_with(b"<svg ")) {
+        return Err(Failure::file(picture, "it is there and no picture, and is left as it is"));
+    }
+    std::fs::write(picture, svg::picture(&shape, dump.words, &blocks))
+        .map_err(|error| Failure::file(picture, error))?;
     Ok(Outcome::Done)
 }
 

@@ -10,7 +10,7 @@ pub const BUCKET_SLOTS: usize = 4;
 const BUCKETS: usize = 16;
 const WINDOW_BUCKETS: usize = 4;
 
-/// What word 0 says, where it is sound: the largest depth D, the segments S, the present depth G.
+/// What word 0 says, where it is valid (document 01: sound): the largest depth D, the segments S, the present depth G.
 #[derive(Clone, Copy, Debug, PartialEq, Eq)]
 pub struct Shape {
     pub max_depth: u32,
@@ -83,7 +83,7 @@ pub fn directory_bits(key: u64, count: u32) -> usize {
 }
 
 impl Shape {
-    /// Reads word 0, or says why it is not sound.
+    /// Reads word 0, or says why it is not valid.
     pub fn read(words: &[u64]) -> Result<Shape, Damage> {
         let word = *words.first().ok_or(Damage::NoWords)?;
         match word >> 32 {
@@ -135,7 +135,7 @@ impl Shape {
         Ok(entry)
     }
 
-    /// The blocks from the left of the directory (document 01, the walk), or the first leader that is not sound.
+    /// The blocks from the left of the directory (document 01: the walk), or the first leader that is not valid.
     pub fn blocks(&self, words: &[u64]) -> Result<Vec<Block>, Damage> {
         let mut blocks = Vec::new();
         let mut start = 0;

@@ -1,6 +1,7 @@
 //! `show`: the directory and its segments, drawn as text, and the records with their places.
 use crate::calls::Ended;
-use crate::failure::{Failure, Outcome};
+use crate::dump::Dump;
+use crate::failure::Outcome;
 use crate::numbers::counted;
 use crate::reading::{Block, Shape, Slot, State, BUCKET_SLOTS};
 use std::io::{self, Write};
@@ -62,35 +63,28 @@ fn line(out: &mut dyn Write, words: &[u64], shape: &Shape, block: &Block) -> io:
 }
 
 /// Draws the directory and its segments.
-pub fn show(out: &mut dyn Write, path: &str, words: &[u64]) -> Ended {
-    let (shape, blocks) = read(path, words)?;
+pub fn show(out: &mut dyn Write, dump: &Dump) -> Ended {
+    let (shape, blocks) = dump.read()?;
     writeln!(out, "{shape}; {}. Slots, bucket by bucket: # live, ~ stale, . empty", counted(blocks.len(), "block"))?;
     writeln!(out, "index       bits         depth segment live stale  slots")?;
     for block in &blocks {
-        line(out, words, &shape, block)?;
+        line(out, dump.words, &shape, block)?;
     }
-    let free: Vec<bool> = shape.named(words).iter().map(|named| !named).collect();
+    let free: Vec<bool> = shape.named(dump.words).iter().map(|named| !named).collect();
     writeln!(out, "free segments: {}", if free.contains(&true) { runs(&free) } else { "none".to_string() })?;
     Ok(Outcome::Done)
 }
 
 /// Writes every record of the blocks' segments with its place, live or stale, a line each, fields parted by tabs.
-pub fn records(out: &mut dyn Write, path: &str, words: &[u64]) -> Ended {
-    let (shape, blocks) = read(path, words)?;
+pub fn records(out: &mut dyn Write, dump: &Dump) -> Ended {
+    let (shape, blocks) = dump.read()?;
     writeln!(out, "state\tkey\tvalue\tindex\tsegment\tslot\tbyte")?;
     for block in &blocks {
-        for slot in shape.slots(words, block).filter(|slot| slot.state != State::Empty) {
+        for slot in shape.slots(dump.words, block).filter(|slot| slot.state != State::Empty) {
             let state = if slot.state == State::Live { "live" } else { "stale" };
             write!(out, "{state}\t{}\t{}\t{}\t", slot.key, slot.value, block.start)?;
             writeln!(out, "{}\t{}\t{}", block.entry.segment, slot.number, 8 * slot.at)?;
         }
     }
     Ok(Outcome::Done)
-}
-
-/// The shape and the blocks, or why the file is damaged.
-pub fn read(path: &str, words: &[u64]) -> Result<(Shape, Vec<Block>), Failure> {
-    let shape = Shape::read(words).map_err(|damage| Failure::damaged(path, damage))?;
-    let blocks = shape.blocks(words).map_err(|damage| Failure::damaged(path, damage))?;
-    Ok((shape, blocks))
 }

@@ -1,6 +1,7 @@
 //! `stat`: the shape of an index, how full it is, and whether it is mended.
 use crate::calls::Ended;
-use crate::failure::{Failure, Outcome};
+use crate::dump::Dump;
+use crate::failure::Outcome;
 use crate::mending::changed_by_mend;
 use crate::numbers::counted;
 use crate::reading::{Block, Shape, Slot, State, SLOTS};
@@ -96,20 +97,20 @@ pub fn unnoticed(words: &[u64], shape: &Shape, blocks: &[Block]) -> Option<Strin
     (!damage.is_empty()).then(|| damage.join("; "))
 }
 
-pub fn stat(out: &mut dyn Write, path: &str, words: &[u64]) -> Ended {
-    let shape = Shape::read(words).map_err(|damage| Failure::damaged(path, damage))?;
+pub fn stat(out: &mut dyn Write, dump: &Dump) -> Ended {
+    let shape = dump.shape()?;
     writeln!(out, "largest depth D     {}", shape.max_depth)?;
     writeln!(out, "segments S          {}", shape.segments)?;
     writeln!(out, "depth G             {}", shape.depth)?;
-    writeln!(out, "words               {}, of {} in the file", shape.words(), words.len())?;
-    let blocks = shape.blocks(words).map_err(|damage| Failure::damaged(path, damage))?;
-    say_records(out, words, &shape, &blocks)?;
+    writeln!(out, "words               {}, of {} in the file", shape.words(), dump.words.len())?;
+    let (_, blocks) = dump.read()?;
+    say_records(out, dump.words, &shape, &blocks)?;
     match blocks.iter().map(|block| block.unequal).sum() {
         0 => writeln!(out, "mended              yes")?,
         unequal => writeln!(out, "mended              no: a mend has {} to make", counted(unequal, "store"))?,
     }
-    match unnoticed(words, &shape, &blocks) {
+    match unnoticed(dump.words, &shape, &blocks) {
         None => Ok(Outcome::Done),
-        Some(damage) => Err(Failure::damaged(path, format!("damaged, as no call leaves it: {damage}"))),
+        Some(damage) => Err(dump.damaged(format!("damaged, as no call leaves it: {damage}"))),
     }
 }
