@@ -1,7 +1,7 @@
 -- `segment::live::is_live_in_half` meets its contract.
 -- Assumes nothing.
 use borrow.Author.Needs.{needs}
-use mathlib.Core.Path.{_≡_, sym, _∙_}
+use mathlib.Core.Path.{_≡_, refl, sym, _∙_}
 use mathlib.Core.Bool.{true, false}
 use Rattle.rules.specs.Keys.{live}
 use Rattle.rules.proofs.Keys.{bit-shift, live-split}
@@ -31,8 +31,8 @@ returns c =
       live-split L (shared (a .block)) (a .half) (a .key) (start .pre .1),
       lives,
       bit-shift (a .key) L,
-      c .before .before .before .before .open-key .ensures .1,
-    )
+      ← (c .before .before .before .before .open-key .ensures .1),
+    ) refl
 
 returns-2 : tie.Need-returns-2
 returns-2 c =

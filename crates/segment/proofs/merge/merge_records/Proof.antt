@@ -78,7 +78,8 @@ loop-again c =
     let here = c .before .before .before .before .before .loop in
     let slot = here .slot in
     let call = c .before .before .merge-slot in
-    let merged = rw (slot-merged (u .t1) (u .t2) M bits slot) at (call .ensures) in (
+    let merged : Executed (mergeSlot (u .t1) 0 (u .t2) 0 M bits slot) (u .allowed) (here .due) (here .segment) (call .result) (call .last .0) =
+    rw (← slot-merged (u .t1) (u .t2) M bits slot) (call .ensures) in (
       search needs,
       call .kept .0 ∙ here .inv .1,
       omega (arith, call .ensures .count, length-record 0 M bits slot (word (u .t1) (2 * slot)) (word (u .t2) (2 * slot)) (word (u .t2) (2 * slot + 1))),
