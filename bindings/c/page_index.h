@@ -122,7 +122,9 @@
  * A call makes its stores one whole word at a time, in a fixed order. If the power goes during a call, and
  * the memory takes stores in that order, or if the process is killed, the array is as if the call had been
  * given an allowance of just the stores that were made; what follows holds after the code
- * PAGE_INDEX_CUT_OFF too.
+ * PAGE_INDEX_CUT_OFF too. (What each allowance leaves is proved. That a call makes the same stores on its
+ * way with a larger one follows from the form of the code, which is checked with the proofs; that the
+ * compiled library does was seen in every store of long runs: docs/PROOFS.md, 'The form of the stores'.)
  *   - Lookups are right at once. After a put, a remove, a merge or a mend that was cut off, page_index_get
  *     finds every page that was put and acknowledged, and says of every key what it says after the
  *     mending. The put or the remove that was cut off has changed nothing that a lookup sees; only if its
