@@ -17,6 +17,7 @@ pub mod Split
 pub mod Put
 pub mod SlotStores
 pub mod Mending
+pub mod Mended
 pub mod Joining
 pub mod Merge
 pub mod Refusals
