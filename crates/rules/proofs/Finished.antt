@@ -12,7 +12,7 @@ use native.Mathlib.Omega.{arith}
 use borrow.Author.Tests.{ltb-true, ltb-false}
 use lib.Dec.{ltb}
 use lib.ListN.{length}
-use lib.Pow.{pow-mono, pow-pos}
+use lib.Pow.{pow-pos}
 use Rattle.stores.specs.Store.{word, apply, exec}
 use Rattle.stores.proofs.Tests.{cases}
 use Rattle.stores.proofs.Stores.{apply-append, length-apply, length-exec, exec-all, exec-append, exec-not-made}
@@ -25,7 +25,7 @@ use Rattle.rules.specs.Get.{keyEntry}
 use Rattle.rules.specs.Merge.{joinedDepth, joinedBits, leftEntry, rightSegment, mergeTests, slotsMerged, entriesJoined, mergingOf, merge}
 use Rattle.rules.specs.Step.{effect, step, outcomeOf}
 use Rattle.rules.specs.Finished.{slotStores, MendingFinishes, MendingLeaves, MendingIsDone}
-use Rattle.rules.proofs.Words.{small, same-header, Within, within-inside, entry-to, directories-below}
+use Rattle.rules.proofs.Words.{small, same-header, Within, within-inside, entry-to, directory-low, directory-fits}
 use Rattle.rules.proofs.Blocks.{Blocks}
 use Rattle.rules.proofs.Doubling.{DirectoryWord}
 use Rattle.rules.proofs.Updating.{same-start}
@@ -65,17 +65,14 @@ module _ {a : List ℕ} {key : ℕ} (p : MergePassed a key) where
   dir = joined-blocks (passed-halves p) fits (passed-left p) (passed-right p) (p .dir)
 
   room : 2 ^ suc g ≤ length a
-  room =
-      let deep : 2 ^ suc g ≤ 2 ^ suc (maxDepth a) = pow-mono {i = suc g} {j = suc (maxDepth a)} (omega (arith, p .tests .valid .present)) in
-      omega (arith, directories-below (maxDepth a) (segments a), p .tests .valid .room)
+  room = directory-fits (p .tests .valid)
 
   -- The stores of the slots leave word 0 and the directory.
   slots-front : (n x : ℕ) → x < 2 ^ suc g → word (exec (slotsMerged a i e) n a) x ≡ word a x
   slots-front n x h =
-      let deep : 2 ^ suc g ≤ 2 ^ suc (maxDepth a) = pow-mono {i = suc g} {j = suc (maxDepth a)} (omega (arith, p .tests .valid .present)) in
       exec-elsewhere (Within (maxDepth a) left) (slotsMerged a i e) n a x
       (slots-within a (maxDepth a) left (rightSegment a i e) M (joinedBits a i e))
-      (λ w. omega (arith, within-inside (maxDepth a) (segments a) left x (passed-left p) w .behind))
+      (λ w. omega (arith, directory-low (p .tests .valid), within-inside (maxDepth a) (segments a) left x (passed-left p) w .behind))
 
   slots-entries : (n j : ℕ) → j < 2 ^ g → entryAt (exec (slotsMerged a i e) n a) g j ≡ f j
   slots-entries n j h = slots-front n (entryAddress g j) (entry-to g j h)

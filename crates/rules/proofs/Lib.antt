@@ -33,3 +33,4 @@ pub mod Agree
 pub mod Local
 pub mod OneNumber
 pub mod Finished
+pub mod RolledBack

@@ -17,4 +17,5 @@ pub mod SameListing
 pub mod JoinedListing
 pub mod OneNumber
 pub mod Finished
+pub mod RolledBack
 pub mod Given
