@@ -4,6 +4,7 @@ pub mod States
 pub mod Samples
 pub mod MergeStates
 pub mod ListBlockStates
+pub mod RolledBackStates
 pub mod Given
 pub mod Words
 pub mod Keys
