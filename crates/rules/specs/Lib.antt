@@ -18,4 +18,5 @@ pub mod JoinedListing
 pub mod OneNumber
 pub mod Finished
 pub mod RolledBack
+pub mod Full
 pub mod Given
