@@ -5,6 +5,7 @@ pub mod Samples
 pub mod MergeStates
 pub mod ListBlockStates
 pub mod RolledBackStates
+pub mod FullStates
 pub mod Given
 pub mod Words
 pub mod Keys
