@@ -195,7 +195,10 @@ behind-late (n ∷ ns) m made no-more from =
 
 in-split : CutSomewhere → (m : ℕ) → m < 76 → CutInSplit wide 263 m
 in-split somewhere m h =
-    ⊎-elim (λ c. c) (λ c. absurd (omega (arith, behind-late (c .finished) m (c .made) (c .no-more) (c .from)))) (somewhere wide 263 m wide-passes)
+    ⊎-elim
+    (λ (c : CutInSplit wide 263 m). c)
+    (λ (c : CutBehind wide 263 m). absurd (omega (arith, behind-late (c .finished) m (c .made) (c .no-more) (c .from))))
+    (somewhere wide 263 m wide-passes)
 
 -- ---- And at a put that splits twice
 
