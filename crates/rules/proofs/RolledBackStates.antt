@@ -6,7 +6,7 @@ use Prim.Native.Nat.{ℕ, _^_, _≤_, _<_}
 use native.Mathlib.Omega.{arith}
 use mathlib.Core.Path.{_≡_, refl, sym, _∙_}
 use mathlib.Core.Bool.{true, false, true≢false}
-use mathlib.Core.List.{List, [], _∷_, _++_}
+use mathlib.Core.List.{List, [], _∷_}
 use mathlib.Core.Logic.{⊎-elim}
 use mathlib.Core.Option.{none, Option·some-injective}
 use lib.ListN.{length, replicate}
@@ -25,20 +25,21 @@ use Rattle.rules.specs.Finished.{mendedBy, MendedTo}
 use Rattle.rules.specs.RolledBack.{Splits, SplitsInto, behindSplits, splitStores, CutInSplit, CutBehind, CutSomewhere, SameDirectory, RolledBack, MendingRollsBack, Stays, MendingKeepsSplits, CutPutMends}
 use Rattle.rules.proofs.Table.{Names, Lookup, Row, behind, allPass, computed}
 use Rattle.rules.proofs.States.{F, stands, names, page, missing, pages, P263, P1030}
-use Rattle.rules.proofs.Samples.{word₀, four, slots}
+use Rattle.rules.proofs.Samples.{word₀, slots}
 
 -- ---- Rows
 
--- Calls, and a last one, on the sixteen keys of state e, on those of state i, and on those of state e with a block of four entries.
+-- Calls, and a last one, on the sixteen keys of state e, on those of state i, and on those of state e with a block of four entries (0, 0).
+-- There are as many segments as the splits want.
 abbrev narrow : List Call → Call → Said → (made : ℕ) → List Store → List Names → List Lookup → Row
-narrow calls call said made words entries lookups = behind 520 (F 4 ∷ []) (slots 7 16 16) calls call said made words entries lookups
+narrow calls call said made words entries lookups = behind 264 (F 2 ∷ []) (slots 7 16 16) calls call said made words entries lookups
 
 abbrev apart : List Call → Call → Said → (made : ℕ) → List Store → List Names → List Lookup → Row
-apart calls call said made words entries lookups = behind 520 (F 4 ∷ []) (slots 7 64 16) calls call said made words entries lookups
+apart calls call said made words entries lookups = behind 392 (F 3 ∷ []) (slots 7 64 16) calls call said made words entries lookups
 
 abbrev broad : List Call → Call → Said → (made : ℕ) → List Names → List Lookup → Row
 broad calls call said made entries lookups =
-    behind 520 (F 4 ∷ []) (four 0 0 0 0 0 0 0 0 ++ slots 7 16 16) calls call said made [] entries lookups
+    behind 264 (F 2 ∷ []) (word₀ 2 2 2 ∷ slots 7 16 16) calls call said made [] entries lookups
 
 -- A mend with all its stores allowed.
 abbrev M : Call
@@ -55,15 +56,15 @@ pub rolledBackStates : List Row
 unfolding each
 rolledBackStates =
     -- state e cut in its doubling: the old directory stands; behind it the doubled one; so in the copy step and behind it
-    narrow (P263 2 ∷ []) M (done []) 0 (stands 0 0x5041474600040200 ∷ []) (names 0 0 ∷ []) old
-    ∷ narrow (P263 3 ∷ []) M (done []) 0 (stands 0 0x5041474600040201 ∷ []) (names 0 0 ∷ names 0 0 ∷ []) old
-    ∷ narrow (P263 40 ∷ []) M (done []) 0 (stands 0 0x5041474600040201 ∷ []) (names 0 0 ∷ names 0 0 ∷ []) old
+    narrow (P263 2 ∷ []) M (done []) 0 (stands 0 0x5041474600020200 ∷ []) (names 0 0 ∷ []) old
+    ∷ narrow (P263 3 ∷ []) M (done []) 0 (stands 0 0x5041474600020201 ∷ []) (names 0 0 ∷ names 0 0 ∷ []) old
+    ∷ narrow (P263 40 ∷ []) M (done []) 0 (stands 0 0x5041474600020201 ∷ []) (names 0 0 ∷ names 0 0 ∷ []) old
     ∷ narrow (P263 75 ∷ []) M (done []) 0 [] (names 0 0 ∷ names 0 0 ∷ []) old
     -- between its entries the mend has one store to make; from the last entry on none, and the split stays
     ∷ narrow (P263 76 ∷ []) (Mend 0) (refused 7) 0 [] (names 0 0 ∷ names 1 1 ∷ []) old
     ∷ narrow (P263 76 ∷ Mend 0 ∷ []) M (done []) 1 [] (names 0 0 ∷ names 0 0 ∷ []) old
     ∷ narrow (P263 77 ∷ []) M (done []) 0 [] (names 0 1 ∷ names 1 1 ∷ []) old
-    -- the new segment is free again: the same put takes it, with a doubling less
+    -- the new segment is free again: the same put takes it; where the doubling was complete, with none
     ∷ narrow (P263 2 ∷ M ∷ []) (P263 10000) (done []) 79 [] (names 0 1 ∷ names 1 1 ∷ []) (pages 7 16 17)
     ∷ narrow (P263 76 ∷ M ∷ []) (P263 10000) (done []) 76 [] (names 0 1 ∷ names 1 1 ∷ []) (pages 7 16 17)
     -- a block of four entries, right half from right to left, then the left one; mends that are cut, and the last that is not
@@ -75,7 +76,7 @@ rolledBackStates =
     ∷ broad (P263 76 ∷ []) M (done []) 0 (names 0 1 ∷ names 0 1 ∷ names 1 1 ∷ names 1 1 ∷ []) old
     -- state i splits twice, 69 and 71 stores: a cut in the second split takes back the second alone, and keeps its doubling from 74 on
     ∷ apart (P1030 69 ∷ []) M (done []) 0 [] (names 0 1 ∷ names 1 1 ∷ []) oldApart
-    ∷ apart (P1030 73 ∷ []) M (done []) 0 (stands 0 0x5041474600040201 ∷ []) (names 0 1 ∷ names 1 1 ∷ []) oldApart
+    ∷ apart (P1030 73 ∷ []) M (done []) 0 (stands 0 0x5041474600030201 ∷ []) (names 0 1 ∷ names 1 1 ∷ []) oldApart
     ∷ apart (P1030 74 ∷ []) M (done []) 0 [] (names 0 1 ∷ names 0 1 ∷ names 1 1 ∷ names 1 1 ∷ []) oldApart
     ∷ apart (P1030 139 ∷ []) M (done []) 1 [] (names 0 1 ∷ names 0 1 ∷ names 1 1 ∷ names 1 1 ∷ []) oldApart
     ∷ apart (P1030 140 ∷ []) M (done []) 0 [] (names 0 2 ∷ names 2 2 ∷ names 1 1 ∷ names 1 1 ∷ []) oldApart

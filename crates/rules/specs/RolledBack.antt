@@ -48,7 +48,7 @@ splitStores key (n ∷ ns) a = length (splitting a key n) + splitStores key ns (
 
 -- ---- Where a put was cut
 
--- In a split, behind others that are finished: before its last store, which is the leading entry of the key's block.
+-- In a split, behind others that are finished: before the split's last store, which is that of the leading entry of the key's block.
 pub record CutInSplit (a : List ℕ) (key allowance : ℕ) : Type 0 where
   pub finished : List ℕ
   pub new : ℕ
@@ -57,7 +57,7 @@ pub record CutInSplit (a : List ℕ) (key allowance : ℕ) : Type 0 where
   pub from : splitStores key finished a ≤ allowance
   pub to : allowance < splitStores key finished a + length (splitting (behindSplits key finished a) key new)
 
--- Behind all its splits, from the last entry of the last one on; or not at all.
+-- Behind all its splits, from the last entry of the last one on. So is a put that was not cut, and one that does not split.
 pub record CutBehind (a : List ℕ) (key allowance : ℕ) : Type 0 where
   pub finished : List ℕ
   pub made : SplitsInto key finished a
@@ -75,7 +75,7 @@ pub record SameDirectory (a b : List ℕ) : Type 0 where
   pub depth-same : depth b ≡ depth a
   pub entries-same : (i : ℕ) → i < 2 ^ depth a → entryAt b (depth a) i ≡ entryAt a (depth a) i
 
--- The array a, on which a split begins; doubled, where the doubling is complete within the first n stores.
+-- The array a, as a split finds it; doubled, where the doubling is complete within the split's first n stores.
 abbrev pub doubledWithin : (n : ℕ) → List ℕ → (key : ℕ) → List ℕ
 doubledWithin n a key = pick (ltb n (length (doublingFor a key))) a (apply (doublingFor a key) a)
 
@@ -83,7 +83,7 @@ doubledWithin n a key = pick (ltb n (length (doublingFor a key))) a (apply (doub
 abbrev pub storesBeforeEntries : List ℕ → (key n : ℕ) → ℕ
 storesBeforeEntries a key n = length (splitting a key n) - width (depth (apply (doublingFor a key) a)) (localDepth (keyEntry a key))
 
--- The array on which the split begins in which a put was cut; and how many stores were made in that split.
+-- The array that the split found in which a put was cut; and how many stores were made in that split.
 abbrev pub splitFrom : {a : List ℕ} {key allowance : ℕ} → CutInSplit a key allowance → List ℕ
 splitFrom {a} {key} c = behindSplits key (c .finished) a
 
@@ -109,11 +109,12 @@ MendingRollsBack =
     → (c : CutInSplit a key allowance)
     → (b : List ℕ) → MendedTo ((outcomeOf a (Put key value allowance)) .after) b → RolledBack a key value allowance c b
 
--- From there on the directory is that of the whole split, and mending changes nothing.
+-- The splits stay: the directory is that of the whole of them, and mending changes nothing.
 pub record Stays (a : List ℕ) (key value allowance : ℕ) (c : CutBehind a key allowance) (b : List ℕ) : Type 0 where
   pub directory : SameDirectory (behindSplits key (c .finished) a) b
   pub words : b ≡ (outcomeOf a (Put key value allowance)) .after
 
+-- From the last entry on it does, of the same puts.
 abbrev pub MendingKeepsSplits : Type 0
 MendingKeepsSplits =
     (a : List ℕ) (key value allowance : ℕ) → consistent a (depth a) (segments a) ≡ true → putTests a key ≡ none
