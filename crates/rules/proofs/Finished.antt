@@ -3,7 +3,7 @@
 -- Assumes nothing.
 use mathlib.Core.Path.{_≡_, sym, ap, _∙_}
 use mathlib.Core.Bool.{true, false}
-use mathlib.Core.List.{List}
+use mathlib.Core.List.{List, _++_}
 use mathlib.Core.Option.{none}
 use mathlib.Core.Logic.{⊎-elim}
 use Prim.Native.Nat.{ℕ, suc, _-_, _^_, _≤_, _<_}
@@ -15,7 +15,7 @@ use lib.ListN.{length}
 use lib.Pow.{pow-pos}
 use Rattle.stores.specs.Store.{word, apply, exec}
 use Rattle.stores.proofs.Tests.{cases}
-use Rattle.stores.proofs.Stores.{apply-append, length-apply, length-exec, exec-all, exec-append, exec-not-made}
+use Rattle.stores.proofs.Stores.{apply-append, length-apply, length-exec, exec-all}
 use Rattle.stores.proofs.Prefixes.{exec-elsewhere, apply-elsewhere}
 use Rattle.replies.proofs.Outcomes.{changed-after, tested-none}
 use Rattle.rules.specs.declared.Call.the-variants.{Merge}
@@ -29,7 +29,7 @@ use Rattle.rules.proofs.Words.{small, same-header, Within, within-insid
 use Rattle.rules.proofs.Blocks.{Blocks}
 use Rattle.rules.proofs.Doubling.{DirectoryWord}
 use Rattle.rules.proofs.Updating.{same-start}
-use Rattle.rules.proofs.Mended.{not-word-0, Settled, Toward, toward-itself, mended-to, enough-mends}
+use Rattle.rules.proofs.Mended.{exec-front, exec-behind, not-word-0, Settled, Toward, toward-itself, mended-to, enough-mends}
 use Rattle.rules.proofs.Joining.{joinedDirectory, joined-depth, joined-blocks, begins-joined, all-joined}
 use Rattle.rules.proofs.Merge.{MergePassed, merge-passed, slots-within, passed-halves, passed-left, passed-right, entries-words}
 
@@ -143,21 +143,18 @@ module _ {a : List ℕ} {key : ℕ} (p : MergePassed a key) where
       rw (merge-is t, apply-append (slotsMerged a i e) (entriesJoined a i e) a)
       (ap (apply (entriesJoined a i e)) (sym (exec-all (slotsMerged a i e) (length (slotsMerged a i e)) a (le-refl _))))
 
-  merge-cut : mergeTests a key ≡ none → (n : ℕ)
-      → (outcomeOf a (Merge key n)) .after ≡ exec (entriesJoined a i e) (n - length (slotsMerged a i e)) (exec (slotsMerged a i e) n a)
+  merge-cut : mergeTests a key ≡ none → (n : ℕ) → (outcomeOf a (Merge key n)) .after ≡ exec (slotsMerged a i e ++ entriesJoined a i e) n a
   unfolding effect step mergingOf
-  merge-cut t n = changed-after n (merge a key) a ∙ rw (merge-is t) (exec-append (slotsMerged a i e) (entriesJoined a i e) n a)
+  merge-cut t n = changed-after n (merge a key) a ∙ rw (merge-is t)
 
   past-slots : mergeTests a key ≡ none → (n : ℕ) → length (slotsMerged a i e) < n
       → (outcomeOf a (Merge key n)) .after ≡ exec (entriesJoined a i e) (n - length (slotsMerged a i e)) between
   past-slots t n h =
-      merge-cut t n
-      ∙ ap (exec (entriesJoined a i e) (n - length (slotsMerged a i e)))
-      (exec-all (slotsMerged a i e) n a (omega arith) ∙ sym (exec-all (slotsMerged a i e) (length (slotsMerged a i e)) a (le-refl _)))
+      merge-cut t n ∙ exec-behind (slotsMerged a i e) (entriesJoined a i e) n a (omega arith)
+      ∙ ap (exec (entriesJoined a i e) (n - length (slotsMerged a i e))) (sym (exec-all (slotsMerged a i e) (length (slotsMerged a i e)) a (le-refl _)))
 
   within-slots : mergeTests a key ≡ none → (n : ℕ) → n ≤ length (slotsMerged a i e) → (outcomeOf a (Merge key n)) .after ≡ exec (slotsMerged a i e) n a
-  within-slots t n h =
-      merge-cut t n ∙ exec-not-made (entriesJoined a i e) (n - length (slotsMerged a i e)) (exec (slotsMerged a i e) n a) (omega arith)
+  within-slots t n h = merge-cut t n ∙ exec-front (slotsMerged a i e) (entriesJoined a i e) n a h
 
 pub mending-finishes : MendingFinishes
 mending-finishes a key n c t stored b m =

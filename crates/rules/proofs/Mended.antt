@@ -3,7 +3,7 @@
 -- Assumes nothing.
 use mathlib.Core.Path.{_≡_, refl, sym, ap, _∙_}
 use mathlib.Core.Bool.{true, false}
-use mathlib.Core.List.{List, [], _∷_}
+use mathlib.Core.List.{List, [], _∷_, _++_}
 use mathlib.Core.Option.{Option, none, some}
 use mathlib.Core.Logic.{⊎-elim}
 use Prim.Native.Nat.{ℕ, suc, _+_, _-_, _^_, _≤_, _<_}
@@ -16,7 +16,7 @@ use lib.Seq.{ext-getD, take-nil}
 use lib.Pow.{pow-pos}
 use Rattle.stores.specs.Store.{Store, word, apply, exec}
 use Rattle.stores.proofs.Tests.{cases}
-use Rattle.stores.proofs.Stores.{exec-all}
+use Rattle.stores.proofs.Stores.{exec-all, exec-append, exec-not-made}
 use Rattle.replies.specs.declared.Refusal.{Refusal}
 use Rattle.replies.specs.Replies.{done, tested, changed}
 use Rattle.replies.proofs.Outcomes.{Complete, CutShort, changed-cases, refused-not-done, changed-after, tested-none, tests-passed}
@@ -30,6 +30,14 @@ use Rattle.rules.proofs.Words.{ValidHeader, header-valid}
 use Rattle.rules.proofs.Blocks.{Blocks}
 use Rattle.rules.proofs.Doubling.{DirectoryWord}
 use Rattle.rules.proofs.Mending.{Mendable, mending-partly, mended-entries, mend-is-done}
+
+-- ---- Some of the stores of a list in two parts: of the first part alone, or all of it and of the second
+
+pub exec-front : (ss tt : List Store) (n : ℕ) (a : List ℕ) → n ≤ length ss → exec (ss ++ tt) n a ≡ exec ss n a
+exec-front ss tt n a h = exec-append ss tt n a ∙ exec-not-made tt (n - length ss) (exec ss n a) (omega arith)
+
+pub exec-behind : (ss tt : List Store) (n : ℕ) (a : List ℕ) → length ss ≤ n → exec (ss ++ tt) n a ≡ exec tt (n - length ss) (apply ss a)
+exec-behind ss tt n a h = exec-append ss tt n a ∙ ap (exec tt (n - length ss)) (exec-all ss n a h)
 
 -- ---- One mend
 

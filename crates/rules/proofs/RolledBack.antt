@@ -17,7 +17,7 @@ use Rattle.stores.specs.Store.{Store, word, store, apply, exec, Every}
 use Rattle.stores.specs.Plan.{Plan}
 use Rattle.stores.proofs.Tests.{cases}
 use Rattle.stores.proofs.Lists.{some-none, any-true, any-at, any-same}
-use Rattle.stores.proofs.Stores.{length-exec, exec-all, exec-append, exec-not-made}
+use Rattle.stores.proofs.Stores.{length-exec, exec-all}
 use Rattle.stores.proofs.Prefixes.{exec-elsewhere}
 use Rattle.replies.specs.Replies.{Said, done}
 use Rattle.replies.proofs.Outcomes.{changed-after}
@@ -41,15 +41,7 @@ use Rattle.rules.proofs.Slots.{hit-window}
 use Rattle.rules.proofs.Split.{Splittable, Ready, ready}
 use Rattle.rules.proofs.Put.{Passed, passed, choice-found, choice-into, choice-full, free-below, put-splittable, put-again, Cases, put-induction}
 use Rattle.rules.proofs.Refusals.{dir-ready, tests-again}
-use Rattle.rules.proofs.Mended.{not-word-0, Settled, Toward, toward-itself, mended-to, enough-mends}
-
--- ---- Stores of a list in two parts
-
-exec-front : (ss tt : List Store) (n : ℕ) (a : List ℕ) → n ≤ length ss → exec (ss ++ tt) n a ≡ exec ss n a
-exec-front ss tt n a h = exec-append ss tt n a ∙ exec-not-made tt (n - length ss) (exec ss n a) (omega arith)
-
-exec-behind : (ss tt : List Store) (n : ℕ) (a : List ℕ) → length ss ≤ n → exec (ss ++ tt) n a ≡ exec tt (n - length ss) (apply ss a)
-exec-behind ss tt n a h = exec-append ss tt n a ∙ ap (exec tt (n - length ss)) (exec-all ss n a h)
+use Rattle.rules.proofs.Mended.{exec-front, exec-behind, not-word-0, Settled, Toward, toward-itself, mended-to, enough-mends}
 
 -- ---- Arrays that mending brings to another
 
@@ -90,6 +82,7 @@ module _ {o c x : List ℕ} (r : Rolls o c x) where
 -- ---- One split
 
 module _ (a : List ℕ) (key n : ℕ) (ok : Passed a key) (s : Splittable a key n) where
+  -- The stores of a doubling, if there is one; below, those of the copy step, and of the entries.
   abbrev ds : List Store
   ds = doublingFor a key
 
