@@ -1,5 +1,6 @@
 -- The laws of the month board.
 pub mod Samples
+pub mod FullStates
 pub mod Jobs
 pub mod Lookups
 pub mod Lines
@@ -7,5 +8,6 @@ pub mod Found
 pub mod Printing
 pub mod Year
 pub mod Limits
+pub mod Full
 pub mod Cases
 pub mod ReadBack

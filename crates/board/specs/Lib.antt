@@ -4,3 +4,4 @@ pub mod Print
 pub mod Passes
 pub mod ReadBack
 pub mod Claims
+pub mod Full

@@ -20,7 +20,7 @@ use Rattle.rules.proofs.Keys.{block-end}
 use Rattle.runs.specs.Map.{Map}
 use Rattle.history.proofs.Invariant.{Inv, Recovered}
 use Rattle.history.proofs.Kept.{Kept}
-use Rattle.rules.proofs.Updating.{same-start, length-updating, updating-elsewhere, updating-whole, updates, turnOf, entry-made, entry-not-made, entry-outside, all-made}
+use Rattle.rules.proofs.Updating.{length-updating, updating-elsewhere, updating-whole, updates, turnOf, entry-made, entry-not-made, entry-outside, leaders-not-made, all-made}
 use Rattle.rules.proofs.Blocks.{halvedDirectory, Place}
 use Rattle.history.proofs.Copy.{Copied}
 use Rattle.history.proofs.Either.{Serves, Between, position, old-inv, halved-inv}
@@ -75,14 +75,9 @@ module _ {m : Map} {g d S : ℕ} {f : ℕ → ℕ} (i : ℕ) (below : i < 2 ^ g)
       }
 
   -- Before the last store, the first entry of every block is f's.
-  leader-kept : (t k : ℕ) → t < width g (localDepth (f i)) → k < 2 ^ g → Place g f i n k → blockStart g (localDepth (f k)) k ≡ k
+  leader-kept : (t k : ℕ) → t < width g (localDepth (f i)) → k < 2 ^ g → blockStart g (localDepth (f k)) k ≡ k
       → entryAt (exec (updates g f i n) t c) g k ≡ f k
-  leader-kept t k l h (inl p) e =
-      let like : f k ≡ f i = cp .inv .directory .entries .blocks i k below h (p .block-bits) in
-      let first : blockStart g (localDepth (f i)) k ≡ k = rw like at e in
-      let start = same-start g (localDepth (f i)) i k (p .block-bits) in
-      entry-not-made g f i n room c t k (p .block-bits) (omega arith) ∙ cp .recovered k h
-  leader-kept t k l h (inr q) e = entry-outside g f i n room c t k (q .other) ∙ cp .recovered k h
+  leader-kept t k l h e = leaders-not-made g f i n room c t (cp .inv .directory .entries) below l k h e ∙ cp .recovered k h
 
   -- After the last store, every entry is the halved directory's.
   pub updates-recovered : Recovered g (halvedDirectory g f i n) (apply (updates g f i n) c)
@@ -103,7 +98,7 @@ module _ {m : Map} {g d S : ℕ} {f : ℕ → ℕ} (i : ℕ) (below : i < 2 ^ g)
         g = g;
         f = f;
         inv = old-inv i below room n new unnamed serves (exec (updates g f i n) t c) (updated t)
-            (λ k h. leader-kept t k (ltb-true t (width g (localDepth (f i))) l) h (at-index k));
+            (λ k h. leader-kept t k (ltb-true t (width g (localDepth (f i))) l) h);
       })
       (λ (l : ltb t (width g (localDepth (f i))) ≡ false).
       record {

@@ -1,2 +1,3 @@
 -- The calls as C sees them.
 pub mod Told
+pub mod Full

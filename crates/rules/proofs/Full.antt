@@ -1,76 +1,86 @@
--- Refusals for want of space, on any array: a put that refuses with 5 or 6 leaves the key's probe window full of other live keys.
+-- Refusals for want of space, on any array: a put that refuses with 5 or 6 leaves the key's probe window full of other live keys, in a
+-- segment that can't be split. And a window is sixteen different slots.
 -- Assumes nothing.
-use mathlib.Core.Path.{_≡_}
-use mathlib.Core.Bool.{true}
+use mathlib.Core.Path.{_≡_, sym}
 use mathlib.Core.List.{List, []}
-use Prim.Native.Nat.{ℕ, _<_}
+use mathlib.Core.Logic.{⊎-elim}
+use Prim.Native.Nat.{ℕ}
 use native.Mathlib.Omega.{arith}
 use Rattle.stores.specs.Store.{apply}
 use Rattle.stores.specs.Plan.{Plan}
 use Rattle.stores.proofs.Stores.{apply-append}
-use Rattle.rules.specs.Layout.{maxDepth, segments, localDepth}
-use Rattle.rules.specs.Slots.{named}
-use Rattle.replies.specs.Replies.{Said, done, refused, numberOf}
-use Rattle.rules.specs.Get.{keyEntry}
+use Rattle.replies.specs.Replies.{Said, done, refused, numberOf, changed}
+use Rattle.replies.proofs.Outcomes.{Complete, CutShort, changed-cases, refused-not-done, refused-inj}
 use Rattle.rules.specs.Split.{splitting}
 use Rattle.rules.specs.Put.{put}
-use Rattle.rules.proofs.Put.{KeyFull, choice-full, free-none, tests-number, Cases, put-induction}
+use Rattle.rules.specs.Step.{effect, step}
+use Rattle.rules.specs.Full.{WindowIsSixteen, TooDeepAt, NoSegmentAt, ForWantOfSpace, PutForWantOfSpace, PerformedForWantOfSpace}
+use Rattle.rules.proofs.Keys.{window-lt, window-count, window-different}
+use Rattle.rules.proofs.Put.{choice-full, free-none, tests-number, Cases, put-induction}
 
--- The window is full and the largest depth is reached.
-pub record TooDeepAt (a : List ℕ) (key : ℕ) : Type 0 where
-  pub window-full : KeyFull a key
-  pub deepest : localDepth (keyEntry a key) ≡ maxDepth a
+pub window-is-sixteen : WindowIsSixteen
+window-is-sixteen key = record { count = window-count key; different = window-different key; in-segment = window-lt key }
 
--- The window is full, the segment could be split, and every segment is named.
-pub record NoSegmentAt (a : List ℕ) (key : ℕ) : Type 0 where
-  pub window-full : KeyFull a key
-  pub local-room : localDepth (keyEntry a key) < maxDepth a
-  pub all-named : (s : ℕ) → s < segments a → named a s ≡ true
+-- ---- The plan
 
--- What the replies 5 and 6 of a plan say of the array that its stores leave.
-record Explained (key : ℕ) (a : List ℕ) (p : Plan Said) : Type 0 where
-  five : p .reply ≡ refused 5 → TooDeepAt (apply (p .due) a) key
-  six : p .reply ≡ refused 6 → NoSegmentAt (apply (p .due) a) key
+-- Where another refusal is said, nothing is claimed.
+pub refused-otherwise : (key n : ℕ) (a : List ℕ) → (n ≡ 5 → ⊥) → (n ≡ 6 → ⊥) → ForWantOfSpace key (refused n) a
+refused-otherwise key n a five six = record { too-deep = λ x. absurd (five (refused-inj x)); no-segment = λ x. absurd (six (refused-inj x)) }
 
-refused-number : (m n : ℕ) → refused m ≡ refused n → m ≡ n
-refused-number m n e = cc
+done-otherwise : (key : ℕ) (a : List ℕ) → ForWantOfSpace key (done []) a
+done-otherwise key a =
+    record { too-deep = λ x. absurd (refused-not-done 5 [] (sym x)); no-segment = λ x. absurd (refused-not-done 6 [] (sym x)) }
 
-not-done : (n : ℕ) → done [] ≡ refused n → ⊥
-not-done n e = let z : _≡_ {A = ℕ} 0 1 = cc in omega arith
+-- What a plan says of the array that its stores leave.
+abbrev Explained : (key : ℕ) → List ℕ → Plan Said → Type 0
+Explained key a p = ForWantOfSpace key (p .reply) (apply (p .due) a)
 
 explained : (key value : ℕ) → Cases key value (Explained key)
 unfolding apply
 explained key value =
     record {
       when-refused = λ a r e.
-          record {
-            five = λ x. absurd (omega (arith, tests-number a key r e, refused-number (numberOf r) 5 x));
-            six = λ x. absurd (omega (arith, tests-number a key r e, refused-number (numberOf r) 6 x));
-          };
-      when-found = λ a j p c. record { five = λ x. absurd (not-done 5 x); six = λ x. absurd (not-done 6 x) };
-      when-into = λ a j p c. record { five = λ x. absurd (not-done 5 x); six = λ x. absurd (not-done 6 x) };
+          let few = tests-number a key r e in
+          refused-otherwise key (numberOf r) a (λ x. omega arith) (λ x. omega arith);
+      when-found = λ a j p c. done-otherwise key _;
+      when-into = λ a j p c. done-otherwise key _;
       when-deep = λ a p c d.
           record {
-            five = λ x. record { window-full = choice-full a key c; deepest = d };
-            six = λ x. absurd (omega (arith, refused-number 5 6 x));
+            too-deep = λ x. record { window-full = choice-full a key c; deepest = d };
+            no-segment = λ x. absurd (omega (arith, refused-inj {m = 5} {n = 6} x));
           };
       when-none = λ a p c d f.
           record {
-            five = λ x. absurd (omega (arith, refused-number 6 5 x));
-            six = λ x. record { window-full = choice-full a key c; local-room = d; all-named = free-none a f };
+            too-deep = λ x. absurd (omega (arith, refused-inj {m = 6} {n = 5} x));
+            no-segment = λ x. record { window-full = choice-full a key c; local-room = d; all-named = free-none a f };
           };
-      when-split = λ a n p c f s rest.
-          record {
-            five = λ x. rw (apply-append (splitting a key n) (put (apply (splitting a key n) a) key value .due) a) (rest .five x);
-            six = λ x. rw (apply-append (splitting a key n) (put (apply (splitting a key n) a) key value .due) a) (rest .six x);
-          };
+      when-split = λ a n p c f s rest. rw (apply-append (splitting a key n) (put (apply (splitting a key n) a) key value .due) a) rest;
     }
 
 module _ (a : List ℕ) (key value : ℕ) where
+  put-explained : ForWantOfSpace key (put a key value .reply) (apply (put a key value .due) a)
+  put-explained = put-induction key value (Explained key) (explained key value) a
+
   -- A put refuses with 5 only where, behind its splits, the window is full and the largest depth is reached.
   pub too-deep-full : put a key value .reply ≡ refused 5 → TooDeepAt (apply (put a key value .due) a) key
-  too-deep-full = put-induction key value (Explained key) (explained key value) a .five
+  too-deep-full = put-explained .too-deep
 
   -- A put refuses with 6 only where, behind its splits, the window is full and every segment is named.
   pub no-segment-full : put a key value .reply ≡ refused 6 → NoSegmentAt (apply (put a key value .due) a) key
-  no-segment-full = put-induction key value (Explained key) (explained key value) a .six
+  no-segment-full = put-explained .no-segment
+
+-- ---- The call
+
+-- A put that is cut off says neither.
+pub put-for-want-of-space : PutForWantOfSpace
+unfolding effect step
+put-for-want-of-space a l key value allowance =
+    ⊎-elim
+    (λ (c : Complete (put a key value) a (changed allowance (put a key value) a)). rw (c .reply, c .after) (put-explained a key value))
+    (λ (c : CutShort allowance (put a key value) a (changed allowance (put a key value) a)).
+    rw (c .reply) (refused-otherwise key 7 _ (λ x. omega arith) (λ x. omega arith)))
+    (changed-cases allowance (put a key value) a)
+
+pub performed-for-want-of-space : PerformedForWantOfSpace
+performed-for-want-of-space key value allowance a l answer a′ l′ p =
+    rw (p .answered .reply, p .answered .words) (put-for-want-of-space a l key value allowance)

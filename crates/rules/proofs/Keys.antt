@@ -4,7 +4,7 @@
 -- Assumes nothing.
 use mathlib.Core.Path.{_≡_, refl, sym, ap, _∙_}
 use mathlib.Core.Bool.{Bool, true, false, not, _&&_, and-false}
-use mathlib.Core.List.{[], _∷_, List·Memᴰ, List·Memᴰ·head, List·Memᴰ·eq-of-singleton}
+use mathlib.Core.List.{List, [], _∷_, _++_, List·Memᴰ, List·Memᴰ·head, List·Memᴰ·tail, List·Memᴰ·not-nil, List·Memᴰ·append-cases, List·Memᴰ·eq-of-singleton}
 use mathlib.Core.Logic.{⊎-elim}
 use Prim.Native.Nat.{ℕ, zero, suc, _+_, _*_, _-_, _/_, _%_, _^_, _≤_, _<_}
 use native.Mathlib.Nat.{add-zero, eq-or-lt-of-le, le-of-suc-le-suc, pow-succ', sub-self, sub-zero, mul-comm, mul-suc, add-mul, mod-lt, div-one, div-add-mod, div-div-eq-div-mul, div-lt-iff-lt-mul, div-eq-of-lt-le, mul-div-le, mul-div-cancel-left, mul-mod-right, mul-le-mul-left, add-suc, mul-left-comm, mul-assoc}
@@ -14,11 +14,13 @@ use borrow.Author.Tests.{eqb-true, eqb-false, not-true, eq-eqb, ne-eqb}
 use lib.Arith.{bin-ind}
 use lib.Bits.{bitXor, xor-add-and, xor-shr, xor-zero-r, xor-lt}
 use lib.Dec.{eqb}
+use lib.ListN.{length}
 use lib.Pow.{pow-pos, pow-add, mod-pow-add, mod-mod-pow, field, pow-mono}
 use Rattle.stores.specs.Lists.{each, allBelow}
 use Rattle.stores.proofs.Tests.{and-left, and-right, and-true, same-test}
 use Rattle.stores.proofs.Lists.{mem-each, each-mem, all-at}
 use Rattle.rules.specs.Keys.{folded, bucket, directoryBits, bitOf, firstBits, bit, index, width, blockBits, blockStart, live, windowBucket, slotsOf, window}
+use Rattle.rules.specs.Full.{Different}
 
 -- ---- The folded key
 
@@ -335,6 +337,50 @@ unfolding window slotsOf
 window-slot key b j h k =
     each-mem (4 * windowBucket key b + j) (λ b. slotsOf (windowBucket key b)) 4 b h
     (each-mem (4 * windowBucket key b + j) (λ i. (4 * windowBucket key b + i) ∷ []) 4 j k (List·Memᴰ·head refl))
+
+-- It has sixteen, and none twice.
+pub window-count : (key : ℕ) → length (window key) ≡ 16
+unfolding window slotsOf each
+window-count key = refl
+
+different-append : (xs ys : List ℕ) → Different xs → Different ys → ((x : ℕ) → List·Memᴰ x xs → List·Memᴰ x ys → ⊥) → Different (xs ++ ys)
+different-append [] ys d e apart = e
+different-append (x ∷ xs) ys d e apart = (
+  λ m. ⊎-elim (d .0) (apart x (List·Memᴰ·head refl)) (List·Memᴰ·append-cases xs m),
+  different-append xs ys (d .1) e (λ z m. apart z (List·Memᴰ·tail m)),
+)
+
+-- Lists of different numbers, of which no two have one in common, joined.
+different-each : (f : ℕ → List ℕ) (n : ℕ) → ((i : ℕ) → i < n → Different (f i))
+    → ((i j x : ℕ) → i < j → j < n → List·Memᴰ x (f i) → List·Memᴰ x (f j) → ⊥) → Different (each f n)
+unfolding each
+different-each f zero own apart = Prim.tt
+different-each f (suc n) own apart =
+    different-append (each f n) (f n) (different-each f n (λ i h. own i (omega arith)) (λ i j x h k. apart i j x h (omega arith))) (own n (omega arith))
+    (λ x m k. let r = mem-each x f n m in apart (r .0) n x (r .1) (omega arith) (r .2) k)
+
+-- A slot is of the bucket number that a fourth of it is.
+slot-bucket : (b j : ℕ) → List·Memᴰ j (slotsOf b) → j / 4 ≡ b
+unfolding slotsOf
+slot-bucket b j m =
+    let r = mem-each j (λ i. (4 * b + i) ∷ []) 4 m in
+    let e : j ≡ 4 * b + r .0 = List·Memᴰ·eq-of-singleton (r .2) in
+    omega arith
+
+slots-different : (b : ℕ) → Different (slotsOf b)
+unfolding slotsOf
+slots-different b =
+    different-each (λ j. (4 * b + j) ∷ []) 4 (λ i h. (List·Memᴰ·not-nil, Prim.tt))
+    (λ i j x h k m n.
+    let p : x ≡ 4 * b + i = List·Memᴰ·eq-of-singleton m in
+    let q : x ≡ 4 * b + j = List·Memᴰ·eq-of-singleton n in
+    omega arith)
+
+pub window-different : (key : ℕ) → Different (window key)
+unfolding window windowBucket
+window-different key =
+    different-each (λ b. slotsOf (windowBucket key b)) 4 (λ b h. slots-different (windowBucket key b))
+    (λ i j x h k m n. omega (arith, slot-bucket (windowBucket key i) x m, slot-bucket (windowBucket key j) x n))
 
 -- ---- For the code
 

@@ -4,6 +4,8 @@ pub mod States
 pub mod Samples
 pub mod MergeStates
 pub mod ListBlockStates
+pub mod RolledBackStates
+pub mod FullStates
 pub mod Given
 pub mod Words
 pub mod Keys
@@ -17,6 +19,7 @@ pub mod Split
 pub mod Put
 pub mod SlotStores
 pub mod Mending
+pub mod Mended
 pub mod Joining
 pub mod Merge
 pub mod Refusals
@@ -32,3 +35,4 @@ pub mod Agree
 pub mod Local
 pub mod OneNumber
 pub mod Finished
+pub mod RolledBack

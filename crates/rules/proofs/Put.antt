@@ -25,9 +25,10 @@ use Rattle.replies.proofs.Sayable.{given-by, unless-given}
 use Rattle.rules.specs.Get.{keyEntry, keySegment, keyTests}
 use Rattle.rules.specs.Split.{splitting}
 use Rattle.rules.specs.Put.{directoryTests, putTests, keyChoice, placed, intoFree, putUnused, unused, put}
+use Rattle.rules.specs.Full.{KeyFull}
 use Rattle.rules.proofs.Words.{ValidHeader, valid-header, header-valid}
 use Rattle.rules.proofs.Keys.{index-lt}
-use Rattle.rules.proofs.Slots.{IntoSlot, FullWindow, found-by-choose, into-by-choose, full-by-choose}
+use Rattle.rules.proofs.Slots.{IntoSlot, found-by-choose, into-by-choose, full-by-choose}
 use Rattle.rules.proofs.Scan.{range-depth, range-segment, consistent-in-range}
 use Rattle.rules.proofs.Doubling.{entry-of-key}
 use Rattle.rules.proofs.Halving.{keyBits}
@@ -97,15 +98,12 @@ tests-number a key r e =
 
 -- ---- The choice of a slot, in the segment of the key
 
--- The first hit; what is said of the slot for a new record of the key; the full window.
+-- The first hit; what is said of the slot for a new record of the key.
 abbrev pub keyHit : List ℕ → (key : ℕ) → Option ℕ
 keyHit a key = hit a (keySegment a key) key
 
 abbrev pub KeyInto : List ℕ → (key j : ℕ) → Type 0
 KeyInto a key j = IntoSlot a (keySegment a key) (localDepth (keyEntry a key)) (keyBits a key) key j
-
-abbrev pub KeyFull : List ℕ → (key : ℕ) → Type 0
-KeyFull a key = FullWindow a (keySegment a key) (localDepth (keyEntry a key)) (keyBits a key) key
 
 module _ (a : List ℕ) (key : ℕ) where
   pub choice-found : (j : ℕ) → keyChoice a key ≡ found j → keyHit a key ≡ some j

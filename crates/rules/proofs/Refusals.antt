@@ -100,7 +100,7 @@ module _ (a : List ℕ) (key n : ℕ) (ok : Passed a key) (s : Splittable a key 
   at-hand = ready a key (s .valid) (s .local-low) (s .local-room)
 
   -- After any doubling the directory is consistent.
-  dir-ready : Blocks (depth (apply (doublingFor a key) a)) (segments a) (entryAt (apply (doublingFor a key) a) (depth (apply (doublingFor a key) a)))
+  pub dir-ready : Blocks (depth (apply (doublingFor a key) a)) (segments a) (entryAt (apply (doublingFor a key) a) (depth (apply (doublingFor a key) a)))
   unfolding doublingFor apply
   dir-ready =
       ⊎-elim

@@ -19,6 +19,7 @@ use Rattle.stores.proofs.Stores.{word-set-same, word-set-other}
 use Rattle.rules.specs.Layout.{keyAddress, valueAddress, keyAt, valueAt}
 use Rattle.rules.specs.Keys.{live, window}
 use Rattle.rules.specs.Slots.{hit, isEmpty, isStale, slotForNew, Choice, found, into, full, chosen, choose}
+use Rattle.rules.specs.Full.{FullWindow}
 use Rattle.rules.proofs.Keys.{live-empty, window-lt}
 
 -- ---- The first hit
@@ -96,12 +97,6 @@ pub record IntoSlot (a : List ℕ) (base L bits key j : ℕ) : Type 0 where
   pub missing : hit a base key ≡ none
   pub in-window : List·Memᴰ j (window key)
   pub not-live : live L bits (keyAt a base j) ≡ false
-
--- Every slot of the key's probe window has another key, which is live there.
-pub record FullWindow (a : List ℕ) (base L bits key : ℕ) : Type 0 where
-  pub missing : hit a base key ≡ none
-  pub others : (j : ℕ) → List·Memᴰ j (window key) → keyAt a base j ≡ key → ⊥
-  pub all-live : (j : ℕ) → List·Memᴰ j (window key) → live L bits (keyAt a base j) ≡ true
 
 -- Two choices are told apart by their kinds and by their slots.
 abbrev kind : Choice → ℕ

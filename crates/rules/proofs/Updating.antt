@@ -4,7 +4,7 @@ use mathlib.Core.Path.{_≡_, refl, sym, ap, _∙_}
 use mathlib.Core.Bool.{Bool, true, false, not}
 use mathlib.Core.List.{List, [], _∷_}
 use mathlib.Core.Logic.{inl, inr, ⊎-elim}
-use Prim.Native.Nat.{ℕ, suc, _+_, _*_, _-_, _/_, _%_, _≤_, _<_}
+use Prim.Native.Nat.{ℕ, suc, _+_, _*_, _-_, _/_, _%_, _^_, _≤_, _<_}
 use native.Mathlib.Omega.{arith}
 use borrow.Author.Tests.{eqb-true, eqb-false, ltb-true, ltb-false, lt-ltb, le-ltb, eq-eqb}
 use lib.Dec.{eqb, ltb}
@@ -20,7 +20,7 @@ use Rattle.rules.specs.Keys.{width, blockBits, blockStart}
 use Rattle.rules.specs.Split.{halfEntry, updating}
 use Rattle.rules.proofs.Words.{entry-inj}
 use Rattle.rules.proofs.Keys.{width-half, blockStart-bits, blockStart-le, in-block, block-same, bits-half}
-use Rattle.rules.proofs.Blocks.{bitsAt, SameBlock, halvedDirectory, Place}
+use Rattle.rules.proofs.Blocks.{bitsAt, SameBlock, Blocks, halvedDirectory, Place}
 
 -- ---- The indices of a block
 
@@ -167,6 +167,19 @@ module _ (g : ℕ) (f : ℕ → ℕ) (i n : ℕ) (room : localDepth (f i) < g) (
       (λ q.
       let e : j ≡ q .number = entry-inj g j (q .number) (q .address) in
       u (block-same g L i j (omega (arith, q .from)) (omega (arith, q .to))))
+
+  -- Before the last store, the first entry of every block is as it was.
+  pub leaders-not-made : {S : ℕ} → Blocks g S f → i < 2 ^ g → t < width g (localDepth (f i))
+      → (j : ℕ) → j < 2 ^ g → blockStart g (localDepth (f j)) j ≡ j → entryAt (exec (updates g f i n) t a) g j ≡ entryAt a g j
+  leaders-not-made dir below early j h first =
+      let L : ℕ = localDepth (f i) in
+      ⊎-elim
+      (λ (e : eqb (blockBits g L j) (bitsAt g f i) ≡ true).
+      let same : SameBlock g f i j = eqb-true (blockBits g L j) (bitsAt g f i) e in
+      let own : blockStart g L j ≡ j = rw (dir .blocks i j below h same) at first in
+      entry-not-made j same (omega (arith, same-start g L i j same)))
+      (λ (e : eqb (blockBits g L j) (bitsAt g f i) ≡ false). entry-outside j (eqb-false (blockBits g L j) (bitsAt g f i) e))
+      (cases (eqb (blockBits g L j) (bitsAt g f i)))
 
 -- After the last store, every entry of an array that had f's is the halved directory's.
 pub all-made : (g : ℕ) (f : ℕ → ℕ) (i n : ℕ) → localDepth (f i) < g → (a : List ℕ) (j : ℕ) → entryAddress g j < length a → entryAt a g j ≡ f j

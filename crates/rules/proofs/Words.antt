@@ -204,6 +204,13 @@ pub directories-below : (D S : ℕ) → 2 ^ suc D ≤ wordsFor D S
 unfolding wordsFor
 directories-below D S = omega arith
 
+-- The present directory is below the segments, and so within the array.
+pub directory-low : {a : List ℕ} → ValidHeader a → 2 ^ suc (depth a) ≤ 2 ^ suc (maxDepth a)
+directory-low {a} v = pow-mono {i = suc (depth a)} {j = suc (maxDepth a)} (omega (arith, v .present))
+
+pub directory-fits : {a : List ℕ} → ValidHeader a → 2 ^ suc (depth a) ≤ length a
+directory-fits {a} v = omega (arith, directory-low v, directories-below (maxDepth a) (segments a), v .room)
+
 module _ (D s j t k : ℕ) (p : j < 64) (q : k < 64) where
   -- Slots at the same address are the same slot of the same segment.
   pub key-inj : keyAddress (segmentAddress D s) j ≡ keyAddress (segmentAddress D t) k → (s ≡ t) × (j ≡ k)

@@ -17,4 +17,6 @@ pub mod SameListing
 pub mod JoinedListing
 pub mod OneNumber
 pub mod Finished
+pub mod RolledBack
+pub mod Full
 pub mod Given
