@@ -5,6 +5,7 @@ pub mod Samples
 pub mod MergeStates
 pub mod ListBlockStates
 pub mod Given
+pub mod Instances
 pub mod Words
 pub mod Keys
 pub mod Scan
