@@ -1,5 +1,6 @@
 -- The laws of the month board.
 pub mod Samples
+pub mod Instances
 pub mod Jobs
 pub mod Lookups
 pub mod Lines
