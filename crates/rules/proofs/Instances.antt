@@ -10,14 +10,16 @@ use mathlib.Core.Option.{none, some, Option·some-injective}
 use native.Mathlib.Omega.{arith}
 use lib.Dec.{lit≤, lit<}
 use lib.ListN.{replicate}
+use mathlib.Core.Logic.{_⊎_}
 use Rattle.stores.specs.Store.{store, apply, word}
+use Rattle.stores.specs.Plan.{Outcome}
 use Rattle.stores.specs.Difference.{SameBut, addressBehind}
 use Rattle.replies.specs.declared.Refusal.the-variants.{CutOff}
 use Rattle.replies.specs.declared.Following.the-variants.{Next, Last}
 use Rattle.replies.specs.declared.Reply.{Reply}
 use Rattle.replies.specs.declared.Reply.the-variants.{Done, Value, Listed, Refused}
 use Rattle.replies.specs.declared.Answer.{Answer}
-use Rattle.replies.specs.Replies.{done, isRefusal, saysDamage}
+use Rattle.replies.specs.Replies.{Said, done, refused, isRefusal, saysDamage}
 use Rattle.rules.specs.declared.Call.the-variants.{Put, Merge, Mend, List as ListCall, ListBlock}
 use Rattle.rules.specs.Layout.{depth, segments}
 use Rattle.rules.specs.Scan.{consistent, leaders}
@@ -26,7 +28,7 @@ use Rattle.rules.specs.Step.{effect, step, outcomeOf, Performed}
 use Rattle.rules.specs.Finished.{mendedBy, MendedTo, slotStores, MendingFinishes, MendingLeaves, MendingIsDone}
 use Rattle.rules.specs.SameListing.{SameRecords, SameListing, ListPerformed, SamePerformedListing, ListingRepeats}
 use Rattle.rules.specs.JoinedListing.{AlwaysEnough, SameDamage, joined, inFront, gatheredFrom, gather, FullListing, JoinedListing, BlockPerformed, JoinedPerformedListing}
-use Rattle.rules.specs.OneNumber.{AtMostOneWord, nextAddress, OneMorePerformed}
+use Rattle.rules.specs.OneNumber.{AtMostOneWord, nextAddress, OneMoreAllowed, OneMoreAllowedAt, SameButOneWord, OtherValue, valueWord, NotStored, Stored, OtherValueAt, OneMorePerformed, outcomeBy, OtherValuePerformed}
 use Rattle.rules.proofs.Table.{computed}
 use Rattle.rules.proofs.Samples.{word₀, entry₁, four, slot}
 
@@ -260,6 +262,12 @@ one-more-made more =
     rw next-address at (more (Put 7 70 1) empty [] (record { reply = Refused CutOff; stores = 1 }) (apply (store 65 70 ∷ []) empty) []
     (record { reply = Done; stores = 2 }) (apply (store 65 70 ∷ store 64 7 ∷ []) empty) [] put-cut put-done)
 
+pub allowed-more : OneMoreAllowed → AtMostOneWord ((step empty [] (Put 7 70 1)) .outcome .after) ((step empty [] (Put 7 70 2)) .outcome .after)
+allowed-more one = one empty [] (Put 7 70 1)
+
+pub allowed-more-at : OneMoreAllowedAt → SameBut 64 ((step empty [] (Put 7 70 1)) .outcome .after) ((step empty [] (Put 7 70 2)) .outcome .after)
+allowed-more-at one = rw next-address at (one empty [] (Put 7 70 1))
+
 -- Two words that differ.
 pub two-words : AtMostOneWord (1 ∷ 1 ∷ []) (2 ∷ 2 ∷ []) → ⊥
 two-words d = differ (d .address) (d .same)
@@ -267,3 +275,48 @@ two-words d = differ (d .address) (d .same)
     differ : (at : ℕ) → SameBut at (1 ∷ 1 ∷ []) (2 ∷ 2 ∷ []) → ⊥
     differ zero s = omega (arith, s .words 1 (λ e. omega (arith, e)))
     differ (suc n) s = omega (arith, s .words 0 (λ e. omega (arith, e)))
+
+-- ---- Another value
+
+other-cut : Performed (Put 7 71 1) empty [] (record { reply = Refused CutOff; stores = 1 }) (apply (store 65 71 ∷ []) empty) []
+unfolding computed
+other-cut = record { answered = record { reply = refl; stores = refl; words = refl }; list = refl }
+
+-- What the two puts, cut between value and key, have answered and left.
+abbrev answered : (value : ℕ) → Outcome Said
+answered value = outcomeBy (record { reply = Refused CutOff; stores = 1 }) (apply (store 65 value ∷ []) empty)
+
+pub other-value-made : OtherValuePerformed
+    → SameButOneWord (answered 70) (answered 71) × (NotStored (answered 70) (answered 71) ⊎ Stored 7 70 71 (answered 70) (answered 71))
+other-value-made other =
+    other 7 70 71 1 empty [] (record { reply = Refused CutOff; stores = 1 }) (apply (store 65 70 ∷ []) empty) []
+    (record { reply = Refused CutOff; stores = 1 }) (apply (store 65 71 ∷ []) empty) [] put-cut other-cut
+
+pub other-value-same : OtherValue → SameButOneWord ((step empty [] (Put 7 70 2)) .outcome) ((step empty [] (Put 7 71 2)) .outcome)
+other-value-same other = other empty [] 7 70 71 2
+
+pub other-value-at : OtherValueAt
+    → NotStored ((step empty [] (Put 7 70 2)) .outcome) ((step empty [] (Put 7 71 2)) .outcome)
+    ⊎ Stored 7 70 71 ((step empty [] (Put 7 70 2)) .outcome) ((step empty [] (Put 7 71 2)) .outcome)
+other-value-at other = other empty [] 7 70 71 2
+
+-- Outcomes that are not the same but for one word: one says another number, one has made another number of stores. And a value that was not stored.
+abbrev outcome : (n made : ℕ) → Outcome Said
+outcome n made = record { reply = refused n; made = made; after = [] }
+
+pub other-reply : SameButOneWord (outcome 5 0) (outcome 6 0) → ⊥
+other-reply s = let e : _≡_ {A = ℕ} 5 6 = cc (s .reply) in omega arith
+
+pub other-made : SameButOneWord (outcome 7 1) (outcome 7 2) → ⊥
+other-made s = omega (arith, s .made)
+
+value-word-is : valueWord (apply (store 65 70 ∷ []) empty) 7 ≡ some 65
+unfolding computed
+value-word-is = refl
+
+pub not-the-value : Stored 7 72 71 (answered 70) (answered 71) → ⊥
+unfolding apply
+not-the-value s = omega (arith, wrong (s .address) (s .first) (s .first-value))
+  where
+    wrong : (at : ℕ) → valueWord (apply (store 65 70 ∷ []) empty) 7 ≡ some at → word (apply (store 65 70 ∷ []) empty) at ≡ 72 → _≡_ {A = ℕ} 70 72
+    wrong at e f = rw (← Option·some-injective 65 at (sym value-word-is ∙ e)) at f

@@ -92,7 +92,8 @@ afterCalls : List ℕ → List Call → List ℕ
 afterCalls a [] = a
 afterCalls a (c ∷ cs) = afterCalls ((outcomeOf a c) .after) cs
 
-wordsSeen : List ℕ → List Store → Bool
+-- These words stand at their addresses.
+unfoldable pub wordsSeen : List ℕ → List Store → Bool
 wordsSeen a [] = true
 wordsSeen a (s ∷ ss) = eqb (word a (s .at)) (s .value) && wordsSeen a ss
 
@@ -170,7 +171,7 @@ allPass (r ∷ rs) = passes r && allPass rs
 
 -- ---- What the tests find is so
 
-words-seen : (a : List ℕ) (ss : List Store) → wordsSeen a ss ≡ true → Every (λ s. word a (s .at) ≡ s .value) ss
+pub words-seen : (a : List ℕ) (ss : List Store) → wordsSeen a ss ≡ true → Every (λ s. word a (s .at) ≡ s .value) ss
 unfolding wordsSeen
 words-seen a [] e = Prim.tt
 words-seen a (s ∷ ss) e = (

@@ -18,3 +18,4 @@ pub mod JoinedListing
 pub mod OneNumber
 pub mod Finished
 pub mod Given
+pub mod Limits
