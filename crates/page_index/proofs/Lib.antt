@@ -1,3 +1,4 @@
 -- From the promise of a call to what is told of it.
 pub mod Tellings
 pub mod Performs
+pub mod Samples
