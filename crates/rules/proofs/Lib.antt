@@ -4,6 +4,7 @@ pub mod States
 pub mod Samples
 pub mod MergeStates
 pub mod ListBlockStates
+pub mod WrongRows
 pub mod Given
 pub mod Instances
 pub mod Words
