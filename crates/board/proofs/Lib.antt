@@ -1,6 +1,7 @@
 -- The laws of the month board.
 pub mod Samples
 pub mod FullStates
+pub mod Instances
 pub mod Jobs
 pub mod Lookups
 pub mod Lines

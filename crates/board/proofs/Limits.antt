@@ -18,10 +18,11 @@ use Rattle.rules.specs.declared.Call.the-variants.{Get, Put}
 use Rattle.rules.specs.Get.{get}
 use Rattle.rules.specs.Step.{effect, step, outcomeOf}
 use Rattle.rules.specs.OneNumber.{AtMostOneWord, oneMore, SameButOneWord}
-use Rattle.rules.proofs.Range.{step-length, extent, step-untouched}
-use Rattle.rules.proofs.Local.{Alike, SameOutcome, step-local}
+use Rattle.rules.specs.Limits.{extent, Alike, SameOutcome, Unchanged}
+use Rattle.rules.proofs.Range.{step-length, step-untouched}
+use Rattle.rules.proofs.Local.{step-local}
 use Rattle.rules.proofs.Bound.{put-bound}
-use Rattle.rules.proofs.Refusals.{Unchanged, refusal-unchanged}
+use Rattle.rules.proofs.Refusals.{refusal-unchanged}
 use Rattle.rules.proofs.OneNumber.{at-most-one, one-more-allowed, other-value}
 use Rattle.board.specs.Jobs.{jobKey, jobTests, behind, onJob, setJob}
 use Rattle.board.specs.Print.{monthLookups, yearLookups, printOver, allNumbers, printYear}

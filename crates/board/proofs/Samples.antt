@@ -1,21 +1,23 @@
 -- The board on small stores: calls on single jobs, prints and what reads back. antt computes each row from the definitions. A print
 -- looks up the numbers 0, 9, 10 and 4095 of each month, and where a row says so others.
 -- Assumes nothing.
-use Prim.Native.Nat.{ℕ, _+_}
-use mathlib.Core.Path.{_≡_, refl}
-use mathlib.Core.Bool.{Bool, true, false, _&&_}
+use Prim.Native.Nat.{ℕ, suc, _+_}
+use mathlib.Core.Path.{_≡_, refl, ap, ap₂}
+use mathlib.Core.Bool.{Bool, true, false, false≢true, _&&_}
 use mathlib.Core.List.{List, [], _∷_, _++_}
 use mathlib.Core.Option.{Option, none, some}
+use borrow.Author.Tests.{eqb-true}
 use lib.Dec.{eqb}
 use lib.ListN.{replicate}
 use Rattle.stores.specs.Lists.{each, numbersSame}
-use Rattle.stores.specs.Store.{Store, store, word, apply}
+use Rattle.stores.specs.Store.{Store, store, apply}
+use Rattle.stores.proofs.Tests.{and-left, and-right}
 use Rattle.stores.specs.Plan.{Outcome}
 use Rattle.replies.specs.Replies.{Said, done, absent, refused, saidSame}
 use Rattle.replies.specs.Writing.{Writing, behindTests}
 use Rattle.rules.specs.declared.Call.the-variants.{Format}
 use Rattle.rules.specs.Step.{outcomeOf}
-use Rattle.rules.proofs.Table.{computed}
+use Rattle.rules.proofs.Table.{computed, wordsSeen}
 use Rattle.text.specs.Parts.{startedBy, parts, nonempty, linesOf, fieldsOf}
 use Rattle.text.specs.Number.{isDigit, allDigits, valueFrom, number, spelled, decimal}
 use Rattle.board.specs.Jobs.{validYear, validMonth, validNumber, jobKey, yearTests, jobTests, behind, onJob, setJob, readJob, removeJob}
@@ -64,10 +66,6 @@ left : List ℕ → List JobCall → List ℕ
 left a [] = a
 left a (c ∷ cs) = left ((outcome a c) .after) cs
 
-wordsSeen : List ℕ → List Store → Bool
-wordsSeen a [] = true
-wordsSeen a (s ∷ ss) = eqb (word a (s .at)) (s .value) && wordsSeen a ss
-
 saidSo : Outcome Said → Made → Bool
 saidSo o m = saidSame (o .reply) (m .said) && eqb (o .made) (m .stores)
 
@@ -94,6 +92,32 @@ readSame none none = true
 readSame none (some ks) = false
 readSame (some js) none = false
 readSame (some js) (some ks) = jobsSame js ks
+
+-- Jobs that the tests find to be the same are.
+same-jobs : (js ks : List Job) → jobsSame js ks ≡ true → js ≡ ks
+unfolding jobsSame
+same-jobs [] [] e = refl
+same-jobs [] (k ∷ ks) e = absurd (false≢true e)
+same-jobs (j ∷ js) [] e = absurd (false≢true e)
+same-jobs (j ∷ js) (k ∷ ks) e =
+    let m : Bool = eqb (j .month) (k .month) in
+    let n : Bool = eqb (j .number) (k .number) in
+    let p : Bool = eqb (j .pages) (k .pages) in
+    let all = and-left (m && (n && p)) (jobsSame js ks) e in
+    let rest = and-right m (n && p) all in
+    let same : j ≡ k = λ i. record {
+      month = eqb-true (j .month) (k .month) (and-left m (n && p) all) i;
+      number = eqb-true (j .number) (k .number) (and-left n p rest) i;
+      pages = eqb-true (j .pages) (k .pages) (and-right n p rest) i;
+    } in
+    ap₂ (λ (h : Job) (hs : List Job). h ∷ hs) same (same-jobs js ks (and-right (m && (n && p)) (jobsSame js ks) e))
+
+same-read : (x y : Option (List Job)) → readSame x y ≡ true → x ≡ y
+unfolding readSame
+same-read none none e = refl
+same-read none (some ks) e = absurd (false≢true e)
+same-read (some js) none e = absurd (false≢true e)
+same-read (some js) (some ks) e = ap some (same-jobs js ks e)
 
 passes : Row → Bool
 passes (calls a made words) = callsPass a made words
@@ -232,3 +256,11 @@ samples =
 pub samples-pass : allPass samples ≡ true
 unfolding allPass samples formatted jobsSet small deep four year2026 wanted refusing made startedBy parts nonempty linesOf fieldsOf isDigit allDigits valueFrom number spelled decimal validYear validMonth validNumber jobKey yearTests jobTests behind onJob monthName lineOf jobLine textOf monthLookups yearLookups jobFound jobsIn firstRefusal refusedIn fitted behindLookups behindTests printOf printOver monthFrom monthNamed jobOf jobOfFields inFront jobsOfLines jobsRead
 samples-pass = refl
+
+-- Jan to Dec, by the bytes of their letters.
+pub names : _≡_ {A = List (List ℕ)} (each (λ m. monthName (suc m) ∷ []) 12)
+    ((74 ∷ 97 ∷ 110 ∷ []) ∷ (70 ∷ 101 ∷ 98 ∷ []) ∷ (77 ∷ 97 ∷ 114 ∷ []) ∷ (65 ∷ 112 ∷ 114 ∷ [])
+    ∷ (77 ∷ 97 ∷ 121 ∷ []) ∷ (74 ∷ 117 ∷ 110 ∷ []) ∷ (74 ∷ 117 ∷ 108 ∷ []) ∷ (65 ∷ 117 ∷ 103 ∷ [])
+    ∷ (83 ∷ 101 ∷ 112 ∷ []) ∷ (79 ∷ 99 ∷ 116 ∷ []) ∷ (78 ∷ 111 ∷ 118 ∷ []) ∷ (68 ∷ 101 ∷ 99 ∷ []) ∷ [])
+unfolding each monthName
+names = refl

@@ -2,55 +2,37 @@
 -- Assumes nothing.
 use Prim.Native.Nat.{ℕ}
 use mathlib.Core.Path.{_≡_, refl}
-use mathlib.Core.Bool.{Bool, true, _&&_}
 use mathlib.Core.List.{List, [], _∷_}
 use mathlib.Core.Option.{Option, none, some}
-use Rattle.rules.specs.declared.Call.{Call}
-use Rattle.rules.specs.declared.Call.the-variants.{Format, Get, Put, Remove, Merge, Mend, List as ListCall, ListBlock}
-use Rattle.stores.specs.Lists.{numbersSame}
-use Rattle.replies.specs.Replies.{Said, done, absent, refused}
+use Rattle.rules.specs.declared.Call.the-variants.{Format, Get, Put, Remove, Mend, List as ListCall}
+use Rattle.replies.specs.Replies.{done, absent, refused}
 use Rattle.text.specs.Parts.{startedBy, parts, nonempty, linesOf, fieldsOf}
 use Rattle.text.specs.Number.{isDigit, allDigits, valueFrom, number, spelled, decimal}
 use Rattle.desk_text.specs.Line.{Spoken, spoken, both, numbersOf, allowed, callWith, calledWith, callOfFields, callOf}
 use Rattle.desk_text.specs.Output.{valuesText, answerLine}
 
-pub data Row : Type 0 where
-  -- the number that a field spells
-  -- the call that a line is
-  calls : List ℕ → Option Spoken → Row
-  -- the line of an answer
-  answers : (letter : ℕ) → Said → (stores : ℕ) → List ℕ → Row
+-- A line, and the call that it is, or none.
+pub record Line : Type 0 where
+  pub text : List ℕ
+  pub call : Option Spoken
 
--- A call as numbers, its kind first.
-callNumbers : Call → List ℕ
-callNumbers (Format D S allowance) = 1 ∷ D ∷ S ∷ allowance ∷ []
-callNumbers (Get key) = 2 ∷ key ∷ []
-callNumbers (Put key value allowance) = 3 ∷ key ∷ value ∷ allowance ∷ []
-callNumbers (Remove key allowance) = 4 ∷ key ∷ allowance ∷ []
-callNumbers (Mend allowance) = 5 ∷ allowance ∷ []
-callNumbers ListCall = 6 ∷ []
-callNumbers (Merge key allowance) = 7 ∷ key ∷ allowance ∷ []
-callNumbers (ListBlock i) = 8 ∷ i ∷ []
+abbrev calls : List ℕ → Option Spoken → Line
+calls text call = record { text = text; call = call }
 
--- A line as numbers, its letter first.
-lineNumbers : Option Spoken → List ℕ
-lineNumbers none = []
-lineNumbers (some l) = l .letter ∷ callNumbers (l .call)
+-- The calls that the lines are, and those that they are to be.
+pub callsRead : List Line → List (Option Spoken)
+callsRead [] = []
+callsRead (l ∷ ls) = callOf (l .text) ∷ callsRead ls
 
-passes : Row → Bool
-passes (calls line call) = numbersSame (lineNumbers (callOf line)) (lineNumbers call)
-passes (answers letter said stores line) = numbersSame (answerLine letter said stores) line
+pub callsMeant : List Line → List (Option Spoken)
+callsMeant [] = []
+callsMeant (l ∷ ls) = l .call ∷ callsMeant ls
 
--- Every row of the table passes.
-unfoldable pub allPass : List Row → Bool
-unfolding numbersSame callNumbers lineNumbers passes
-allPass [] = true
-allPass (r ∷ rs) = passes r && allPass rs
-
-pub samples : List Row
-samples =
+pub lines : List Line
+lines =
     -- the lines of the six calls
     calls (70 ∷ 9 ∷ 50 ∷ 9 ∷ 50 ∷ 9 ∷ 49 ∷ 48 ∷ 48 ∷ []) (some (spoken 70 (Format 2 2 100)))
+    ∷ calls (70 ∷ 9 ∷ 50 ∷ 9 ∷ 52 ∷ 9 ∷ 49 ∷ 48 ∷ 48 ∷ []) (some (spoken 70 (Format 2 4 100)))
     ∷ calls (80 ∷ 9 ∷ 55 ∷ 9 ∷ 55 ∷ 48 ∷ 9 ∷ 49 ∷ 48 ∷ 48 ∷ []) (some (spoken 80 (Put 7 70 100)))
     ∷ calls (71 ∷ 9 ∷ 55 ∷ []) (some (spoken 71 (Get 7)))
     ∷ calls (82 ∷ 9 ∷ 55 ∷ 9 ∷ 49 ∷ 48 ∷ 48 ∷ []) (some (spoken 82 (Remove 7 100)))
@@ -90,20 +72,35 @@ samples =
     -- a carriage return is no digit
     ∷ calls (71 ∷ 9 ∷ 55 ∷ 13 ∷ []) none
     ∷ calls (76 ∷ 13 ∷ []) none
-    -- the answers of document 01's example, a refusal of two digits, and a mend
-    ∷ answers 70 (done []) 67 (70 ∷ 9 ∷ 48 ∷ 9 ∷ 54 ∷ 55 ∷ 10 ∷ [])
-    ∷ answers 80 (done []) 2 (80 ∷ 9 ∷ 48 ∷ 9 ∷ 50 ∷ 10 ∷ [])
-    ∷ answers 71 (done (70 ∷ [])) 0 (71 ∷ 9 ∷ 48 ∷ 9 ∷ 48 ∷ 9 ∷ 55 ∷ 48 ∷ 10 ∷ [])
-    ∷ answers 80 (refused 7) 0 (80 ∷ 9 ∷ 55 ∷ 9 ∷ 48 ∷ 10 ∷ [])
-    ∷ answers 82 (done []) 1 (82 ∷ 9 ∷ 48 ∷ 9 ∷ 49 ∷ 10 ∷ [])
-    ∷ answers 71 absent 0 (71 ∷ 9 ∷ 45 ∷ 9 ∷ 48 ∷ 10 ∷ [])
-    ∷ answers 76 (done (0 ∷ [])) 0 (76 ∷ 9 ∷ 48 ∷ 9 ∷ 48 ∷ 9 ∷ 48 ∷ 10 ∷ [])
-    ∷ answers 76 (refused 10) 0 (76 ∷ 9 ∷ 49 ∷ 48 ∷ 9 ∷ 48 ∷ 10 ∷ [])
-    ∷ answers 82 absent 0 (82 ∷ 9 ∷ 45 ∷ 9 ∷ 48 ∷ 10 ∷ [])
-    ∷ answers 77 (done []) 4294967295 (77 ∷ 9 ∷ 48 ∷ 9 ∷ 52 ∷ 50 ∷ 57 ∷ 52 ∷ 57 ∷ 54 ∷ 55 ∷ 50 ∷ 57 ∷ 53 ∷ 10 ∷ [])
-    ∷ answers 71 (done (18446744073709551615 ∷ [])) 0 (71 ∷ 9 ∷ 48 ∷ 9 ∷ 48 ∷ 9 ∷ 49 ∷ 56 ∷ 52 ∷ 52 ∷ 54 ∷ 55 ∷ 52 ∷ 52 ∷ 48 ∷ 55 ∷ 51 ∷ 55 ∷ 48 ∷ 57 ∷ 53 ∷ 53 ∷ 49 ∷ 54 ∷ 49 ∷ 53 ∷ 10 ∷ [])
     ∷ []
 
-pub samples-pass : allPass samples ≡ true
-unfolding allPass samples startedBy parts nonempty linesOf fieldsOf isDigit allDigits valueFrom number spelled decimal both numbersOf allowed callWith calledWith callOfFields callOf valuesText answerLine
-samples-pass = refl
+pub lines-read : callsRead lines ≡ callsMeant lines
+unfolding callsRead callsMeant lines startedBy parts nonempty linesOf fieldsOf isDigit allDigits valueFrom number both numbersOf allowed callWith calledWith callOfFields callOf
+lines-read = refl
+
+-- The lines of answers: those of document 01's example, a refusal of two digits, and a mend.
+pub answer-lines : _≡_ {A = List (List ℕ)}
+    (answerLine 70 (done []) 67
+    ∷ answerLine 80 (done []) 2
+    ∷ answerLine 71 (done (70 ∷ [])) 0
+    ∷ answerLine 80 (refused 7) 0
+    ∷ answerLine 82 (done []) 1
+    ∷ answerLine 71 absent 0
+    ∷ answerLine 76 (done (0 ∷ [])) 0
+    ∷ answerLine 76 (refused 10) 0
+    ∷ answerLine 82 absent 0
+    ∷ answerLine 77 (done []) 4294967295
+    ∷ answerLine 71 (done (18446744073709551615 ∷ [])) 0 ∷ [])
+    ((70 ∷ 9 ∷ 48 ∷ 9 ∷ 54 ∷ 55 ∷ 10 ∷ [])
+    ∷ (80 ∷ 9 ∷ 48 ∷ 9 ∷ 50 ∷ 10 ∷ [])
+    ∷ (71 ∷ 9 ∷ 48 ∷ 9 ∷ 48 ∷ 9 ∷ 55 ∷ 48 ∷ 10 ∷ [])
+    ∷ (80 ∷ 9 ∷ 55 ∷ 9 ∷ 48 ∷ 10 ∷ [])
+    ∷ (82 ∷ 9 ∷ 48 ∷ 9 ∷ 49 ∷ 10 ∷ [])
+    ∷ (71 ∷ 9 ∷ 45 ∷ 9 ∷ 48 ∷ 10 ∷ [])
+    ∷ (76 ∷ 9 ∷ 48 ∷ 9 ∷ 48 ∷ 9 ∷ 48 ∷ 10 ∷ [])
+    ∷ (76 ∷ 9 ∷ 49 ∷ 48 ∷ 9 ∷ 48 ∷ 10 ∷ [])
+    ∷ (82 ∷ 9 ∷ 45 ∷ 9 ∷ 48 ∷ 10 ∷ [])
+    ∷ (77 ∷ 9 ∷ 48 ∷ 9 ∷ 52 ∷ 50 ∷ 57 ∷ 52 ∷ 57 ∷ 54 ∷ 55 ∷ 50 ∷ 57 ∷ 53 ∷ 10 ∷ [])
+    ∷ (71 ∷ 9 ∷ 48 ∷ 9 ∷ 48 ∷ 9 ∷ 49 ∷ 56 ∷ 52 ∷ 52 ∷ 54 ∷ 55 ∷ 52 ∷ 52 ∷ 48 ∷ 55 ∷ 51 ∷ 55 ∷ 48 ∷ 57 ∷ 53 ∷ 53 ∷ 49 ∷ 54 ∷ 49 ∷ 53 ∷ 10 ∷ []) ∷ [])
+unfolding spelled decimal valuesText answerLine
+answer-lines = refl

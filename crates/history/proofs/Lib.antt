@@ -26,4 +26,4 @@ pub mod Theorem
 pub mod Covered
 pub mod EarlyCalls
 pub mod Performed
-pub mod Instance
+pub mod Instances

@@ -23,7 +23,7 @@ pub(crate) fn place_to_read(words: &[u64], key: u64) -> Placed
     place_of(words, header, key)
 }
 
-// For put and remove: 1, 2, and 3 and 4 for the whole directory. The place is read before the scan, so
+// For put, remove and merge: 1, 2, and 3 and 4 for the whole directory. The place is read before the scan, so
 // that the scan's loop has the registers to itself.
 pub(crate) fn place_to_change(words: &[u64], key: u64) -> Placed
     ensures { λ r. ⌜ PlacedBy r (now (words .entry)) key (putTests (now (words .entry)) key) ⌝ }

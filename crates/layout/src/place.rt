@@ -1,4 +1,4 @@
-// Where a key stands: found once for get, put and remove.
+// Where a key stands: found once for get, put, remove and merge.
 use crate::entry::Entry;
 use crate::entry::read_entry;
 use crate::header::Header;

@@ -3,3 +3,4 @@ pub mod Tellings
 pub mod FullStates
 pub mod Performs
 pub mod Full
+pub mod Samples

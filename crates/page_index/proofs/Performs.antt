@@ -13,20 +13,14 @@ use Rattle.rules.specs.declared.Call.{Call}
 use Rattle.rules.specs.declared.Call.the-variants.{List as ListCall, ListBlock}
 use Rattle.replies.specs.Replies.{Said, saidBy}
 use Rattle.rules.specs.Listing.{list}
-use Rattle.rules.specs.Step.{effect, lists, step, outcomeOf, Performed}
+use Rattle.rules.specs.Step.{effect, lists, step, outcomeOf}
 use Rattle.replies.proofs.Sayable.{Sayable}
 use Rattle.rules.proofs.Said.{step-sayable}
 use Rattle.index.proofs.Performs.{answered-performed, list-performed, list-block-performed}
 use Rattle.board.specs.Jobs.{jobKey, jobTests, behind, onJob}
 use Rattle.page_index.specs.declared.PageIndexReply.{PageIndexReply}
-use Rattle.page_index.specs.Told.{Tells, Told, ToldWriting, ToldBlock, nextSaid}
+use Rattle.page_index.specs.Told.{Tells, Told, ToldWriting, ToldBlock, nextSaid, ToldPerformed}
 use Rattle.page_index.proofs.Tellings.{tells-same}
-
--- A call was performed, and its answer told in the three numbers of r.
-pub record ToldPerformed (call : Call) (a l : List ℕ) (r : PageIndexReply) (a′ l′ : List ℕ) : Type 0 where
-  pub answer : Answer
-  pub performed : Performed call a l answer a′ l′
-  pub tells : Tells (saidBy (answer .reply)) (answer .stores) r
 
 -- The answer that an outcome's reply and count make, where a reply of the code says so.
 abbrev answer-of : {may : ℕ → Bool} (o : Outcome Said) → Sayable may (o .reply) → Answer

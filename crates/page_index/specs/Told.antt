@@ -6,7 +6,10 @@ use mathlib.Core.List.{List, [], _∷_}
 use lib.ListN.{length}
 use Rattle.stores.specs.Plan.{Outcome}
 use Rattle.stores.specs.Written.{atFront}
-use Rattle.replies.specs.Replies.{Said, done, listed, absent, refused}
+use Rattle.replies.specs.declared.Answer.{Answer}
+use Rattle.replies.specs.Replies.{Said, done, listed, absent, refused, saidBy}
+use Rattle.rules.specs.declared.Call.{Call}
+use Rattle.rules.specs.Step.{Performed}
 use Rattle.replies.specs.Writing.{Writing}
 use Rattle.rules.specs.ListBlock.{listBlock}
 use Rattle.replies.specs.declared.Following.the-variants.{Next, Last}
@@ -57,3 +60,9 @@ pub record ToldWriting (w : Writing) (r : PageIndexReply) (before after : List �
 pub record ToldBlock (a : List ℕ) (i : ℕ) (r : PageIndexReply) (before after : List ℕ) (m n : ℕ) : Type 0 where
   pub writing : ToldWriting (listBlock a i (length before)) r before after
   pub next : n ≡ nextSaid ((listBlock a i (length before)) .reply) m
+
+-- A call was performed, and its answer told in the three numbers of r.
+pub record ToldPerformed (call : Call) (a l : List ℕ) (r : PageIndexReply) (a′ l′ : List ℕ) : Type 0 where
+  pub answer : Answer
+  pub performed : Performed call a l answer a′ l′
+  pub tells : Tells (saidBy (answer .reply)) (answer .stores) r

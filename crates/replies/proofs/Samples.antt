@@ -39,14 +39,30 @@ written = record { reply = done (2 ∷ []); words = 5 ∷ 6 ∷ [] }
 writes : Writing → Said → (words : List ℕ) → Bool
 writes w said words = saidSame (w .reply) said && numbersSame (w .words) words
 
--- What follows a block is told from anything else, and 1, 3 and 4 from other replies.
+-- A listing of one block is done; 1, 3 and 4 are told from other replies.
 told : Bool
 told =
-    isDone (listed 3 Last) && (saidSame (listed 3 (Next 4)) (listed 3 (Next 4)) && (saidSame (listed 3 Last) (listed 3 Last)
-    && (not (saidSame (listed 3 Last) (listed 2 Last)) && (not (saidSame (listed 3 (Next 4)) (listed 3 (Next 5)))
-    && (not (saidSame (listed 3 (Next 0)) (listed 3 Last)) && (not (saidSame (listed 3 Last) (done (3 ∷ [])))
+    isDone (listed 3 Last)
     && (saysDamage (refused 1) && (saysDamage (refused 3) && (saysDamage (refused 4)
-    && (not (saysDamage (refused 10)) && (not (saysDamage (refused 16)) && not (saysDamage (listed 1 Last)))))))))))))
+    && (not (saysDamage (refused 10)) && (not (saysDamage (refused 16)) && not (saysDamage (listed 1 Last)))))))
+
+-- Replies of which no two are the same, in either order, but each with itself.
+pub replies : List Said
+replies =
+    done [] ∷ done (3 ∷ []) ∷ done (4 ∷ []) ∷ listed 3 (Next 0) ∷ listed 3 (Next 4) ∷ listed 3 Last ∷ listed 4 Last ∷ absent ∷ refused 3 ∷ refused 4 ∷ []
+
+-- A reply is told from those of the list.
+toldFrom : Said → List Said → Bool
+toldFrom s [] = true
+toldFrom s (t ∷ ts) = not (saidSame s t) && (not (saidSame t s) && toldFrom s ts)
+
+pub allTold : List Said → Bool
+allTold [] = true
+allTold (s ∷ ss) = saidSame s s && (toldFrom s ss && allTold ss)
+
+pub replies-told : allTold replies ≡ true
+unfolding replies toldFrom allTold numbersSame followingSame saidSame
+replies-told = refl
 
 pub sample : Bool
 sample =

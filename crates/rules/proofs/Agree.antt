@@ -8,7 +8,7 @@ use mathlib.Core.Logic.{⊎-elim}
 use Prim.Native.Nat.{ℕ, zero, suc, _+_, _^_, _≤_, _<_}
 use native.Mathlib.Omega.{arith}
 use lib.Dec.{eqb}
-use lib.ListN.{length, set, take}
+use lib.ListN.{set, take}
 use lib.Pow.{pow-pos}
 use Rattle.stores.specs.Lists.{pick, each}
 use Rattle.stores.specs.Store.{Store, word, store, apply}
@@ -27,6 +27,7 @@ use Rattle.rules.specs.Get.{keyEntry, keySegment, valueAtHit}
 use Rattle.rules.specs.Split.{moves, copySlot, copying}
 use Rattle.rules.specs.Mend.{mendEntry}
 use Rattle.rules.specs.Listing.{liveRecord, records}
+use Rattle.rules.specs.Limits.{Agree}
 use Rattle.rules.proofs.Words.{entry-inside, directories-below}
 use Rattle.rules.proofs.Keys.{index-lt}
 use Rattle.rules.proofs.Slots.{hit-same, choose-same}
@@ -72,11 +73,6 @@ pick-same true x y z h = h refl
 pick-same false x y z h = refl
 
 -- ---- Arrays that agree
-
--- Two arrays of the same length agree in the words that D and S of the first take.
-pub record Agree (a b : List ℕ) : Type 0 where
-  pub length-same : length a ≡ length b
-  pub words-same : (i : ℕ) → i < wordsFor (maxDepth a) (segments a) → word a i ≡ word b i
 
 -- After the same stores they agree again, where the stores keep D and S.
 pub agree-after : (a b : List ℕ) (ss : List Store) → Agree a b

@@ -6,7 +6,9 @@ pub mod MergeStates
 pub mod ListBlockStates
 pub mod RolledBackStates
 pub mod FullStates
+pub mod WrongRows
 pub mod Given
+pub mod Instances
 pub mod Words
 pub mod Keys
 pub mod Scan

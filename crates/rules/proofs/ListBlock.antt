@@ -23,7 +23,7 @@ use Rattle.replies.specs.declared.Following.the-variants.{Next, Last}
 use Rattle.replies.specs.Replies.{done, listed, refused, refuse, numberOf, isRefusal, saysDamage, saidBy, unless}
 use Rattle.replies.specs.Writing.{Writing, behindTests}
 use Rattle.rules.specs.declared.Call.the-variants.{List as ListCall, ListBlock}
-use Rattle.rules.specs.Layout.{depth, segments, entryAt}
+use Rattle.rules.specs.Layout.{depth, segments, entryAt, localDepth}
 use Rattle.rules.specs.Scan.{leader, leaders, leadersValid}
 use Rattle.rules.specs.Put.{directoryTests}
 use Rattle.rules.specs.Listing.{records, wordsOf, listingTests, roomTest, listTests, list}
@@ -32,6 +32,7 @@ use Rattle.rules.specs.Step.{effect, step}
 use Rattle.rules.specs.JoinedListing.{AlwaysEnough, SameDamage, joined, inFront, gatheredFrom, gather, FullListing, JoinedListing, BlockPerformed, PartsPerformed, JoinedPerformedListing}
 use Rattle.replies.proofs.Sayable.{not-given}
 use Rattle.rules.specs.Given.{has}
+use Rattle.rules.proofs.Keys.{width-pos}
 use Rattle.rules.proofs.Scan.{leader-zero}
 use Rattle.rules.proofs.BlockRecords.{recordsTo, leadersTo, records-start, records-end, leaders-start, leaders-end, block-small, next-inside, next-behind, next-own, records-block, leaders-block, leads-at, leader-at}
 use Rattle.rules.proofs.Listing.{words-append, words-none, length-words, Front, stops, goes-on, front, ListingPassed, listing-passed, room-passed, late, list-late, list-block-late, BlockPassed, block-passed, done-list-leaves, list-front}
@@ -134,6 +135,22 @@ block-done a l i count f says = go (listBlockTests a i (length l)) refl
     go (some r) e =
         let said : refuse r ≡ listed count f = rw e at says in
         absurd (let z : _≡_ {A = ℕ} 0 1 = cc in omega arith)
+
+-- The next index that it names is never 0, which in the calls for C says that the block was the last.
+pub next-not-0 : (a l : List ℕ) (i count j : ℕ) → (step a l (ListBlock i)) .outcome .reply ≡ listed count (Next j) → j ≡ 0 → ⊥
+unfolding following
+next-not-0 a l i count j says zero-there =
+    let d : Next j ≡ followingLed a i = block-done a l i count (Next j) says .following in
+    ⊎-elim
+    (λ (e : ltb (behindLed a i) (2 ^ depth a) ≡ true).
+    let same : Next j ≡ Next (behindLed a i) = d ∙ rw e refl in
+    let n : j ≡ behindLed a i = cc in
+    omega (arith, width-pos (depth a) (localDepth (entryAt a (depth a) i))))
+    (λ (e : ltb (behindLed a i) (2 ^ depth a) ≡ false).
+    let same : Next j ≡ Last = d ∙ rw e refl in
+    let z : _≡_ {A = ℕ} 0 1 = cc in
+    omega arith)
+    (cases (ltb (behindLed a i) (2 ^ depth a)))
 
 -- ---- The answers joined
 

@@ -4,6 +4,7 @@ use Prim.Native.Nat.{ℕ, _+_}
 use mathlib.Core.Path.{_≡_, refl}
 use mathlib.Core.Bool.{true}
 use mathlib.Core.List.{List, [], _∷_, _++_}
+use mathlib.Core.Option.{none, some}
 use Rattle.stores.specs.Lists.{each}
 use Rattle.stores.specs.Store.{Store, store}
 use Rattle.replies.specs.declared.Following.{Following}
@@ -37,6 +38,14 @@ emptyRight = present 1 ∷ entry₁ 0 0 1 ∷ entry₁ 1 1 1 ∷ slot 28 7
 -- One block, in which every slot has a live record.
 abbrev allLive : List Store
 allLive = each (λ j. slot j (j + 1)) 64
+
+-- One page in the left block, two in the right one.
+abbrev twoRight : List Store
+twoRight = emptyRight ++ (store 192 23 ∷ store 193 230 ∷ store 194 55 ∷ store 195 550 ∷ [])
+
+-- The words of the blocks of `mixedOrders`.
+abbrev mixedParts : List (List ℕ)
+mixedParts = (1025 ∷ 10250 ∷ 5 ∷ 50 ∷ []) ∷ (80 ∷ 800 ∷ 31 ∷ 310 ∷ []) ∷ (306 ∷ 3060 ∷ 50 ∷ 500 ∷ []) ∷ (112 ∷ 1120 ∷ []) ∷ []
 
 pub listBlockStates : List Row
 unfolding each
@@ -97,15 +106,15 @@ listBlockStates =
     ∷ refuses three (mixedWith (store 0 0 ∷ entry₃ 4 9 2 ∷ [])) 8 0 1
     ∷ refuses (F 4 ∷ []) oldStore 0 128 1
     -- the answers joined, with 128 words: part by part the full listing
-    ∷ gathers 528 three mixedOrders 8 128
-    ((1025 ∷ 10250 ∷ 5 ∷ 50 ∷ []) ∷ (80 ∷ 800 ∷ 31 ∷ 310 ∷ []) ∷ (306 ∷ 3060 ∷ 50 ∷ 500 ∷ []) ∷ (112 ∷ 1120 ∷ []) ∷ [])
-    ∷ gathers 528 moved [] 2 128 ((7 ∷ 70 ∷ 263 ∷ 2630 ∷ pageWords 39 32 7) ∷ pageWords 23 32 8 ∷ [])
-    ∷ gathers 520 (F 4 ∷ []) emptyRight 2 128 ((7 ∷ 70 ∷ []) ∷ [] ∷ [])
+    ∷ gathers 528 three mixedOrders 8 128 (some mixedParts)
+    ∷ gathers 528 moved [] 2 128 (some ((7 ∷ 70 ∷ 263 ∷ 2630 ∷ pageWords 39 32 7) ∷ pageWords 23 32 8 ∷ []))
+    ∷ gathers 520 (F 4 ∷ []) emptyRight 2 128 (some ((7 ∷ 70 ∷ []) ∷ [] ∷ []))
     -- four blocks take four calls; with fewer the last does not come, with too few words a block is refused
-    ∷ gathers 528 three mixedOrders 4 4
-    ((1025 ∷ 10250 ∷ 5 ∷ 50 ∷ []) ∷ (80 ∷ 800 ∷ 31 ∷ 310 ∷ []) ∷ (306 ∷ 3060 ∷ 50 ∷ 500 ∷ []) ∷ (112 ∷ 1120 ∷ []) ∷ [])
-    ∷ gathers 528 three mixedOrders 3 128 []
-    ∷ gathers 528 three mixedOrders 8 3 []
+    ∷ gathers 528 three mixedOrders 4 4 (some mixedParts)
+    ∷ gathers 528 three mixedOrders 3 128 none
+    ∷ gathers 528 three mixedOrders 8 3 none
+    -- a first block is listed, and the second, which has two records, refused
+    ∷ gathers 520 (F 4 ∷ []) twoRight 2 2 none
     ∷ []
 
 pub list-block-states : allPass listBlockStates ≡ true

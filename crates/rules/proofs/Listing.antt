@@ -9,7 +9,6 @@ use mathlib.Core.Option.{Option, none, some}
 use borrow.Author.Tests.{leb-true, le-leb, lt-leb}
 use lib.Dec.{leb}
 use lib.ListN.{length, take}
-use Rattle.stores.specs.Written.{atFront}
 use Rattle.stores.proofs.Lists.{some-none}
 use Rattle.stores.proofs.Written.{at-front-words, at-front-length}
 use Rattle.replies.specs.declared.Refusal.the-variants.{NoStore, Broken, Unmended, ShortList, NoLeader}
@@ -28,7 +27,7 @@ use Rattle.rules.specs.Put.{directoryTests}
 use Rattle.rules.specs.Listing.{Record, records, wordsOf, listingTests, roomTest, listTests, list}
 use Rattle.rules.specs.ListBlock.{leads, recordsLed, listBlockTests, listBlock}
 use Rattle.rules.specs.Step.{Effect, effect, lists, carriedOut, wordsBy, step}
-use Rattle.rules.specs.SameListing.{SameListing, SamePerformedListing, ListingRepeats}
+use Rattle.rules.specs.SameListing.{SameListing, SamePerformedListing, ListingRepeats, ListDone}
 use Rattle.rules.proofs.Put.{unless-none}
 
 -- ---- Records as words
@@ -150,11 +149,6 @@ block-passed a i room e =
     record { valid = p .valid; leaders = p .leaders; agree = p .agree; leader = t .0; fits = room-fits (recordsLed a i) room (t .1) }
 
 -- ---- A done list
-
--- A list of the index array a into the list array l has said n records and is done: it has left exactly the defined words in front.
-pub record ListDone (a l : List ℕ) (n : ℕ) : Type 0 where
-  pub count : n ≡ length (records a)
-  pub left : (step a l ListCall) .list ≡ atFront (wordsOf (records a)) l
 
 pub done-list-leaves : (a l : List ℕ) (n : ℕ) → (step a l ListCall) .outcome .reply ≡ done (n ∷ []) → ListDone a l n
 unfolding step effect list behindTests

@@ -11,8 +11,8 @@ use borrow.Author.Tests.{eqb-true, not-true, ltb-true}
 use lib.Dec.{ltb, eqb}
 use lib.ListN.{length, take}
 use Rattle.stores.specs.Lists.{pick, each}
-use Rattle.stores.specs.Store.{Store, word, store, apply, exec}
-use Rattle.stores.specs.Plan.{Outcome, cut}
+use Rattle.stores.specs.Store.{Store, store, apply, exec}
+use Rattle.stores.specs.Plan.{cut}
 use Rattle.stores.specs.Written.{atFront}
 use Rattle.stores.proofs.Tests.{cases, and-left}
 use Rattle.stores.proofs.Lists.{each-same, first-same, any-same}
@@ -40,16 +40,16 @@ use Rattle.rules.proofs.Words.{ValidHeader, valid-header}
 use Rattle.rules.proofs.Keys.{index-lt}
 use Rattle.rules.proofs.Scan.{range-segment, valid-at-segment}
 use Rattle.rules.proofs.Put.{unless-none, Passed, passed, passed-none, put-refused, put-found, put-into, put-too-deep, put-no-segment, put-again, Cases, put-induction}
-use Rattle.rules.proofs.Range.{Sizes, ownSizes}
 use Rattle.rules.proofs.Halving.{keyUpdates}
 use Rattle.rules.proofs.Split.{Ready, ready, Splittable, AfterSplit, after-split}
-use Rattle.rules.proofs.Agree.{Agree, unless-same, tested-same, replied-same, writing-same, pick-same, agree-after, front-key-entry, front-key-segment, agree-front, segment-ends, word-0-same, header-same, key-same, value-same, hit-local, choose-local, value-hit-same, copying-same, live-records-same, entry-same, leader-local, leaders-same, entries-same, mend-entry-same}
+use Rattle.rules.proofs.Agree.{unless-same, tested-same, replied-same, writing-same, pick-same, agree-after, front-key-entry, front-key-segment, agree-front, segment-ends, word-0-same, header-same, key-same, value-same, hit-local, choose-local, value-hit-same, copying-same, live-records-same, entry-same, leader-local, leaders-same, entries-same, mend-entry-same}
 use Rattle.rules.proofs.BlockRecords.{leader-segment, leads-at}
 use Rattle.rules.proofs.Listing.{listing-passed, block-passed}
 use Rattle.rules.proofs.Merge.{joined-room, halves, left-below, right-below, merge-passed}
 use Rattle.rules.proofs.Joining.{buddy-inside}
 use Rattle.rules.proofs.Blocks.{Blocks, consistent-blocks}
 use Rattle.rules.specs.Merge.{buddyStart, joinedDepth, joinedBits, buddyEntry, leftEntry, rightEntry, leftSegment, rightSegment, liveLeft, liveRight, bothLive, mergeSlot, mergingSlots, hasBuddy, bothLiveAt, halvesTests, mergeTests, slotsMerged, mergingOf, merge}
+use Rattle.rules.specs.Limits.{Sizes, ownSizes, Agree, AlikeFor, Alike, SameOutcome}
 use Rattle.rules.proofs.Doubling.{entry-of-key}
 
 -- ---- What a call reads, where word 0 is valid
@@ -391,22 +391,6 @@ merge-local {a} {b} s key =
     ))
 
 -- ---- Every call
-
--- What two arrays share for a call to do the same on both: the words that D and S take, and the length; for a format, the
--- length alone.
-abbrev pub AlikeFor : (a b : List ℕ) → Option Sizes → Type 0
-AlikeFor a b none = Agree a b
-AlikeFor a b (some s) = length a ≡ length b
-
-abbrev pub Alike : (a b : List ℕ) → Call → Type 0
-Alike a b c = AlikeFor a b (ownSizes c)
-
--- The outcomes x on the array a and y on the array b say the same, after as many stores, and leave the same word wherever
--- a and b had the same.
-pub record SameOutcome (a b : List ℕ) (x y : Outcome Said) : Type 0 where
-  pub reply : x .reply ≡ y .reply
-  pub made : x .made ≡ y .made
-  pub words : (i : ℕ) → word a i ≡ word b i → word (x .after) i ≡ word (y .after) i
 
 carried-same : (e : Effect) (a b : List ℕ) → length a ≡ length b → SameOutcome a b (carriedOut e a) (carriedOut e b)
 unfolding changed cut exec

@@ -16,17 +16,9 @@ use Rattle.replies.proofs.Outcomes.{refused-not-done, refused-inj}
 use Rattle.rules.specs.Layout.{validHeader, depth, segments}
 use Rattle.rules.specs.Scan.{inRange}
 use Rattle.rules.specs.Slots.{hit}
-use Rattle.rules.specs.Get.{keyEntry, keySegment, keyTests, entryTests, getTests, valueAtHit, get}
+use Rattle.rules.specs.Get.{keyEntry, keySegment, keyTests, entryTests, getTests, valueAtHit, get, GetSays, finds, misses, no-store, no-key, broken}
 
 -- ---- The replies of a get
-
--- One of these: done with one word of the array, absent, or 1, 2 or 3.
-pub data GetSays (a : List ℕ) (s : Said) : Type 0 where
-  finds : (i : ℕ) → s ≡ done (word a i ∷ []) → GetSays a s
-  misses : s ≡ absent → GetSays a s
-  no-store : s ≡ refused 1 → GetSays a s
-  no-key : s ≡ refused 2 → GetSays a s
-  broken : s ≡ refused 3 → GetSays a s
 
 module _ (a : List ℕ) (key : ℕ) where
   hit-says : (h : Option ℕ) → GetSays a (valueAtHit a (keySegment a key) h)

@@ -24,6 +24,7 @@ use Rattle.rules.specs.Scan.{leadersValid, entriesAgree}
 use Rattle.rules.specs.Get.{keyEntry, keyTests}
 use Rattle.rules.specs.Put.{directoryTests, putTests}
 use Rattle.rules.specs.Merge.{onRight, joinedDepth, joinedBits, joinedStart, buddyEntry, leftEntry, rightEntry, leftSegment, rightSegment, liveLeft, liveRight, mergeRecord, mergeSlot, mergingSlots, joining, hasBuddy, bothLiveAt, halvesTests, mergeTests, slotsMerged, entriesJoined, mergingOf, keyBuddy, keyBothLive, merge}
+use Rattle.rules.specs.Limits.{MergeBound}
 use Rattle.rules.proofs.Words.{header-valid, Within, key-within, value-within, within-inside, entry-from, entry-to, directories-below}
 use Rattle.rules.proofs.Keys.{index-lt, block-end}
 use Rattle.rules.proofs.Blocks.{Blocks, consistent-blocks}
@@ -239,11 +240,6 @@ length-merging {a} {key} p =
       length-joining (depth a) (joinedDepth e) (joinedStart a i e) (segmentOf (leftEntry a i e)),
       block-end (depth a) (joinedDepth e) i (omega (arith, passed-halves p .room)) (index-lt key (depth a)),
     )
-
--- The bound on a merge's stores.
-pub record MergeBound (a : List ℕ) (due : List Store) : Type 0 where
-  pub by-depth : length due ≤ 128 + 2 ^ depth a
-  pub most : length due ≤ 4224
 
 -- It holds on every array.
 pub merge-bound : (a : List ℕ) (key : ℕ) → MergeBound a (merge a key .due)

@@ -108,6 +108,9 @@ mergeStates =
     ∷ damaged (present 1 ∷ entry₁ 0 0 1 ∷ entry₁ 1 1 1 ∷ slotIn 1 28 23) (M 7) (done []) 4 (stands 64 23 ∷ stands 65 230 ∷ [])
     (names 0 0 ∷ names 0 0 ∷ []) (page 23 ∷ [])
     ∷ damaged (present 1 ∷ entry₁ 0 0 1 ∷ entry₁ 1 1 1 ∷ slotIn 0 63 15 ++ slotIn 1 63 31) (M 7) (refused 15) 0 [] [] (page 15 ∷ page 31 ∷ [])
+    -- a live record of the right in the last slot
+    ∷ damaged (present 1 ∷ entry₁ 0 0 1 ∷ entry₁ 1 1 1 ∷ slotIn 1 63 31) (M 7) (done []) 4 (stands 134 31 ∷ stands 135 310 ∷ [])
+    (names 0 0 ∷ names 0 0 ∷ []) (page 31 ∷ [])
     -- stale keys of the left go where no live record takes their slot, those of the right do not come along: 23, 55, 71 and 39 stay absent
     ∷ damaged stale (M 7) (done []) 7
     (stands 64 7 ∷ stands 66 0 ∷ stands 68 87 ∷ stands 69 870 ∷ stands 70 0 ∷ stands 71 0 ∷ stands 72 119 ∷ stands 73 1190 ∷ []) (names 0 0 ∷ names 0 0 ∷ [])

@@ -35,21 +35,13 @@ use Rattle.rules.specs.Remove.{removeTests, clearedAt, remove}
 use Rattle.rules.specs.Merge.{mergeTests, mergingOf, merge}
 use Rattle.rules.specs.Mend.{mendTests, mendEntry, mending, mend}
 use Rattle.rules.specs.Step.{Effect, changes, answers, effect, carriedOut, step}
+use Rattle.rules.specs.Limits.{extent, Below, dueBy}
 use Rattle.rules.proofs.Slots.{hit-window}
 use Rattle.rules.proofs.Words.{ValidHeader, valid-header, Inside, entry-inside, key-inside, value-inside, directories-below}
 use Rattle.rules.proofs.Keys.{window-lt}
 use Rattle.rules.proofs.Put.{unless-none, passed, choice-found, choice-into, put-induction}
 use Rattle.rules.proofs.Merge.{merge-passed, merging-in-range}
 use Rattle.rules.proofs.Split.{splitting-in-range, AfterSplit, after-split}
-
--- A pair of D and S.
-pub record Sizes : Type 0 where
-  pub D : ℕ
-  pub S : ℕ
-
--- The store is below the words that D and S take.
-abbrev pub Below : (D S : ℕ) → Store → Type 0
-Below D S s = s .at < wordsFor D S
 
 -- A plan behind tests: what holds of its stores where the tests pass, holds of the stores due.
 tested-every : (P : Store → Type 0) (o : Option Refusal) (p : Plan Said) → (o ≡ none → Every P (p .due)) → Every P (tested o p .due)
@@ -166,30 +158,6 @@ carried-length (answers w) a = refl
 pub step-length : (a l : List ℕ) (c : Call) → length ((step a l c) .outcome .after) ≡ length a
 unfolding step
 step-length a l c = carried-length (effect a (length l) c) a
-
--- The D and S that a call brings with it: a format has some.
-abbrev pub ownSizes : Call → Option Sizes
-ownSizes (Format D S allowance) = some (record { D = D; S = S })
-ownSizes (Get key) = none
-ownSizes (Put key value allowance) = none
-ownSizes (Remove key allowance) = none
-ownSizes (Merge key allowance) = none
-ownSizes (Mend allowance) = none
-ownSizes ListCall = none
-ownSizes (ListBlock i) = none
-
--- The number of words that a call may touch, from word 0 on: those that its own D and S take, else those of word 0.
-abbrev pub extentOf : List ℕ → Option Sizes → ℕ
-extentOf a none = wordsFor (maxDepth a) (segments a)
-extentOf a (some s) = wordsFor (s .D) (s .S)
-
-abbrev pub extent : List ℕ → Call → ℕ
-extent a c = extentOf a (ownSizes c)
-
--- The stores that are due by an effect.
-abbrev pub dueBy : Effect → List Store
-dueBy (changes allowance p) = p .due
-dueBy (answers w) = []
 
 -- No call's due store is beyond its extent.
 pub effect-range : (a : List ℕ) (room : ℕ) (c : Call) → Every (λ s. s .at < extent a c) (dueBy (effect a room c))

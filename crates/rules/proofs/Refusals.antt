@@ -12,7 +12,7 @@ use borrow.Author.Tests.{eqb-true, ne-eqb}
 use lib.Dec.{eqb}
 use lib.ListN.{length}
 use Rattle.stores.specs.Store.{apply}
-use Rattle.stores.specs.Plan.{Plan, Outcome}
+use Rattle.stores.specs.Plan.{Plan}
 use Rattle.stores.proofs.Lists.{some-none}
 use Rattle.stores.proofs.Tests.{cases}
 use Rattle.stores.proofs.Stores.{apply-append}
@@ -32,6 +32,7 @@ use Rattle.rules.specs.Remove.{removeTests, clearedAt, remove}
 use Rattle.rules.specs.Merge.{mergeTests, merge}
 use Rattle.rules.specs.Mend.{mendTests, mend}
 use Rattle.rules.specs.Step.{Effect, changes, answers, effect, carriedOut, step}
+use Rattle.rules.specs.Limits.{dueBy, Unchanged}
 use Rattle.replies.proofs.Outcomes.{Complete, CutShort, changed-cases, refused-not-done, refused-inj}
 use Rattle.rules.proofs.Words.{ValidHeader, header-valid, small, entry-inside}
 use Rattle.rules.proofs.Keys.{index-lt}
@@ -40,7 +41,6 @@ use Rattle.rules.proofs.Doubling.{Doubled, after-doubling, entry-of-key
 use Rattle.rules.proofs.Updating.{all-made}
 use Rattle.rules.proofs.Halving.{keyCopies, keyUpdates, halving-parts, copies-elsewhere, copies-room, after-halving}
 use Rattle.rules.proofs.Split.{Splittable, Ready, ready, AfterSplit, after-split}
-use Rattle.rules.proofs.Range.{dueBy}
 use Rattle.rules.proofs.Put.{Passed, tests-number, put-refused, Cases, put-induction}
 
 -- ---- A directory after a split is consistent
@@ -164,11 +164,6 @@ put-early a key value n says early = go (putTests a key) refl
     go (some r) e = ap (λ (p : Plan Said). p .due) (put-refused a key value r e)
 
 -- ---- Every call
-
--- The call has left the array as it was.
-pub record Unchanged (a : List ℕ) (o : Outcome Said) : Type 0 where
-  pub after : o .after ≡ a
-  pub made : o .made ≡ 0
 
 -- A call whose plan has no store where it says n.
 unchanged-by : (allowance : ℕ) (p : Plan Said) (a : List ℕ) (n : ℕ) → changed allowance p a .reply ≡ refused n → (n ≡ 7 → ⊥)

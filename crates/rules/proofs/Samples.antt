@@ -4,13 +4,17 @@
 -- Assumes nothing.
 use Prim.Native.Nat.{ℕ, _+_, _*_}
 use mathlib.Core.Path.{_≡_, refl}
-use mathlib.Core.Bool.{true}
+use mathlib.Core.Bool.{Bool, true, false}
 use mathlib.Core.List.{List, [], _∷_, _++_}
+use mathlib.Core.Option.{Option, none, some}
 use lib.ListN.{length, replicate}
 use Rattle.stores.specs.Lists.{each}
 use Rattle.stores.specs.Store.{Store, store}
 use Rattle.rules.specs.declared.Call.{Call}
-use Rattle.rules.specs.declared.Call.the-variants.{Format, Get, Put, Remove, Mend, List as ListCall}
+use Rattle.rules.specs.declared.Call.the-variants.{Format, Get, Put, Remove, Merge, Mend, List as ListCall, ListBlock}
+use Rattle.rules.specs.Slots.{found, into, full}
+use Rattle.rules.specs.Step.{lists}
+use Rattle.rules.specs.OneNumber.{valueIn}
 use Rattle.replies.specs.Replies.{Said, done, absent, refused}
 use Rattle.rules.proofs.Table.{Names, Lookup, Row, buckets, indexed, state, listing, oneMoreAllowed, otherValue, allPass}
 use Rattle.rules.proofs.States.{F, P, fill, stands, names, page, missing, pages, row, sixteen, P263, P1030}
@@ -138,6 +142,12 @@ unfolding each
 samples =
     -- the search goes on behind an empty slot
     row 520 (F 4 ∷ P 7 ∷ P 23 ∷ Remove 7 10000 ∷ []) (Get 23) (done (230 ∷ [])) 0 [] [] (missing 7 ∷ [])
+    -- a record outside its key's window is not found: a put makes a second one
+    ∷ damaged (slot 0 7) (P 7) (done []) 2 (stands 8 7 ∷ stands 64 7 ∷ stands 65 70 ∷ []) [] (page 7 ∷ [])
+    ∷ damaged (slot 44 7) (Get 7) absent 0 [] [] []
+    -- keys are compared whole: 2^30 + 7 is not 7, and 2^30 is not 0
+    ∷ row 520 (F 4 ∷ P 7 ∷ []) (P 1073741831) (done []) 2 (stands 64 7 ∷ stands 66 1073741831 ∷ stands 67 10737418310 ∷ []) [] (page 7 ∷ page 1073741831 ∷ [])
+    ∷ listed (F 4 ∷ P 1073741824 ∷ []) [] (done (1 ∷ [])) (1073741824 ∷ 10737418240 ∷ []) 2
     -- the window goes on from bucket 15 to bucket 0
     ∷ row 520 (F 4 ∷ fill 15 16 4) (P 79) (done []) 2 (stands 8 79 ∷ stands 9 790 ∷ []) [] (pages 15 16 5)
     -- a put of a key that is there stores its value, and a remove clears the key word alone
@@ -193,11 +203,21 @@ samples =
     -- a leader that is too deep, and one whose index is no multiple of its width
     ∷ damaged (store 1 0x100000000 ∷ []) (P 7) (refused 3) 0 [] [] (record { key = 7; said = refused 3 } ∷ [])
     ∷ damaged (four 0 2 1 1 1 1 2 2) (P 7) (refused 3) 0 [] [] []
+    -- an entry that names segment S, the first that there is not; and one whose segment number or local depth has a high bit alone
+    ∷ damaged (four 0 1 0 1 4 1 4 1) (P 7) (refused 3) 0 [] [] (missing 7 ∷ record { key = 23; said = refused 3 } ∷ [])
+    ∷ damaged (store 1 0x10000 ∷ []) (P 7) (refused 3) 0 [] [] (record { key = 7; said = refused 3 } ∷ [])
+    ∷ damaged (store 1 0x10000000000 ∷ []) (P 7) (refused 3) 0 [] [] (record { key = 7; said = refused 3 } ∷ [])
     -- 1 before 2: no mark; G above D; S above 2^D; D above 12; an array too short by one word; an array of no words
     ∷ damaged (store 0 0 ∷ []) (P 0) (refused 1) 0 [] [] (record { key = 0; said = refused 1 } ∷ [])
     ∷ damaged (word₀ 3 2 4 ∷ []) (P 7) (refused 1) 0 [] [] []
     ∷ damaged (word₀ 0 2 5 ∷ []) (Mend 10000) (refused 1) 0 [] [] []
     ∷ unlisted (F 4 ∷ []) (word₀ 0 13 4 ∷ []) 1 2
+    -- S = 0; and G, D and S with a bit above those that a valid word 0 has
+    ∷ damaged (word₀ 0 2 0 ∷ []) (P 7) (refused 1) 0 [] [] (record { key = 7; said = refused 1 } ∷ [])
+    ∷ row 520 [] (F 0) (refused 8) 0 (stands 0 0 ∷ []) [] []
+    ∷ damaged (word₀ 16 2 4 ∷ []) (P 7) (refused 1) 0 [] [] []
+    ∷ damaged (word₀ 0 18 4 ∷ []) (P 7) (refused 1) 0 [] [] []
+    ∷ damaged (word₀ 0 2 8196 ∷ []) (P 7) (refused 1) 0 [] [] []
     ∷ state 519 [] (word₀ 0 2 4 ∷ []) (Remove 7 10000) (refused 1) 0 [] [] []
     ∷ row 0 [] (P 7) (refused 1) 0 [] [] []
     ∷ row 0 [] (F 4) (refused 9) 0 [] [] []
@@ -289,3 +309,14 @@ samples =
 pub samples-pass : allPass samples ≡ true
 unfolding allPass samples
 samples-pass = refl
+
+-- Which calls list, by the order of document 01 and the wishes: format, get, put, remove, merge, mend, list, list of one block.
+pub listing-calls : _≡_ {A = List Bool}
+    (lists (Format 2 4 0) ∷ lists (Get 7) ∷ lists (Put 7 70 0) ∷ lists (Remove 7 0) ∷ lists (Merge 7 0) ∷ lists (Mend 0) ∷ lists ListCall
+    ∷ lists (ListBlock 0) ∷ [])
+    (false ∷ false ∷ false ∷ false ∷ false ∷ false ∷ true ∷ true ∷ [])
+listing-calls = refl
+
+-- The value word of a put in the segment at word 8: of the slot that has the key, of the slot for a new one, and of none.
+pub value-words : _≡_ {A = List (Option ℕ)} (valueIn 8 (found 28) ∷ valueIn 8 (into 29) ∷ valueIn 8 full ∷ []) (some 65 ∷ some 67 ∷ none ∷ [])
+value-words = refl

@@ -1,13 +1,20 @@
 -- A table of facts about the definitions, as data, and the test that a row passes.
 -- Assumes nothing.
-use Prim.Native.Nat.{ℕ, suc}
-use mathlib.Core.Bool.{Bool, true, false, _&&_}
-use mathlib.Core.List.{List, [], _∷_}
+use Prim.Native.Nat.{ℕ, zero, suc, _+_}
+use native.Mathlib.Nat.{add-zero}
+use native.Mathlib.Omega.{arith}
+use borrow.Author.Tests.{eqb-true}
+use mathlib.Core.Path.{_≡_, refl, ap}
+use mathlib.Core.Bool.{Bool, true, false, false≢true, _&&_}
+use mathlib.Core.List.{List, [], _∷_, List·Memᴰ, List·Memᴰ·head, List·Memᴰ·tail, Memᴰ·cast}
+use mathlib.Core.Logic.{⊎-elim}
 use mathlib.Core.Option.{Option, none, some, orElse}
 use lib.Dec.{eqb}
 use lib.ListN.{replicate}
-use Rattle.stores.specs.Lists.{pick, each, firstIn, allBelow, anyBelow, numbersSame}
-use Rattle.stores.specs.Store.{Store, word, apply, exec}
+use Rattle.stores.specs.Lists.{pick, each, firstIn, allBelow, anyBelow, numbersSame, listsSame, ifAny}
+use Rattle.stores.specs.Store.{Store, Every, word, apply, exec}
+use Rattle.stores.proofs.Tests.{cases, and-left, and-right}
+use Rattle.stores.proofs.Lists.{same-lists, same-if-any}
 use Rattle.stores.specs.Plan.{Outcome, cut}
 use Rattle.stores.specs.Difference.{addressBehind}
 use Rattle.rules.specs.declared.Call.{Call}
@@ -18,6 +25,7 @@ use Rattle.rules.specs.Scan.{inRange, validLeader, nextLeader, leader, l
 use Rattle.rules.specs.Slots.{hit, isEmpty, isStale, slotForNew, chosen, choose, named, freeSegment}
 use Rattle.replies.specs.Replies.{Said, saidSame, unless, tested, replied, changed}
 use Rattle.replies.specs.Writing.{behindTests}
+use Rattle.replies.proofs.Same.{same-said}
 use Rattle.rules.specs.Format.{formatTests, formatStores, format}
 use Rattle.rules.specs.Get.{keyEntry, keySegment, keyTests, entryTests, getTests, valueAtHit, get}
 use Rattle.rules.specs.Split.{doubling, moves, copySlot, copying, halfEntry, updating, halvingOf, halving, doublingFor, splitting}
@@ -56,9 +64,9 @@ pub data Row : Type 0 where
       → Row
   -- A listing, behind calls and damage: `call` into the list array `list`. It is to say `said` with no store, and to leave `left` there.
   listing : (lent : ℕ) (before : List Call) (damage : List Store) (call : Call) (list : List ℕ) (said : Said) (left : List ℕ) → Row
-  -- The listings of one block, joined: from index 0 on, with `calls` calls at most and `room` words, these parts are to be gathered; no
-  -- parts where a call is refused or the last block does not come.
-  gathers : (lent : ℕ) (before : List Call) (damage : List Store) (calls room : ℕ) (parts : List (List ℕ)) → Row
+  -- The listings of one block, joined: from index 0 on, with `calls` calls at most and `room` words, these parts are to be gathered; none
+  -- where a call is refused or the last block does not come.
+  gathers : (lent : ℕ) (before : List Call) (damage : List Store) (calls room : ℕ) (parts : Option (List (List ℕ))) → Row
   -- A call with its allowance and with one larger by one, behind the same. The address of the store that one more allows is to be
   -- `next`, nothing where there is none; the arrays left are to differ at the addresses `apart` and at no other.
   oneMoreAllowed : (lent : ℕ) (before : List Call) (damage : List Store) (call : Call) (next apart : List ℕ) → Row
@@ -84,7 +92,8 @@ afterCalls : List ℕ → List Call → List ℕ
 afterCalls a [] = a
 afterCalls a (c ∷ cs) = afterCalls ((outcomeOf a c) .after) cs
 
-wordsSeen : List ℕ → List Store → Bool
+-- These words stand at their addresses.
+unfoldable pub wordsSeen : List ℕ → List Store → Bool
 wordsSeen a [] = true
 wordsSeen a (s ∷ ss) = eqb (word a (s .at)) (s .value) && wordsSeen a ss
 
@@ -108,15 +117,11 @@ listPasses s said left =
     (saidSame (s .outcome .reply) said && eqb (s .outcome .made) 0)
     && numbersSame (s .list) left
 
-partsSame : (xs ys : List (List ℕ)) → Bool
-partsSame [] [] = true
-partsSame [] (y ∷ ys) = false
-partsSame (x ∷ xs) [] = false
-partsSame (x ∷ xs) (y ∷ ys) = numbersSame x y && partsSame xs ys
-
-partsGathered : Option (List (List ℕ)) → List (List ℕ) → Bool
-partsGathered none parts = partsSame [] parts
-partsGathered (some found) parts = partsSame found parts
+partsGathered : (found wanted : Option (List (List ℕ))) → Bool
+partsGathered none none = true
+partsGathered none (some parts) = false
+partsGathered (some found) none = false
+partsGathered (some found) (some parts) = listsSame found parts
 
 -- The addresses, from i on, at which two arrays differ; beyond the shorter one all of the longer one's.
 differing : (i : ℕ) → (x y : List ℕ) → List ℕ
@@ -124,11 +129,6 @@ differing i [] [] = []
 differing i [] (w ∷ y) = i ∷ differing (suc i) [] y
 differing i (v ∷ x) [] = i ∷ differing (suc i) x []
 differing i (v ∷ x) (w ∷ y) = pick (eqb v w) (differing (suc i) x y) (i ∷ differing (suc i) x y)
-
--- An address, or nothing.
-ifAny : Option ℕ → List ℕ
-ifAny none = []
-ifAny (some i) = i ∷ []
 
 -- Nothing is apart; or one word, which in either array is the value word of the slot where a put of the key goes.
 valueApart : (x y : List ℕ) → (key : ℕ) → (apart : List ℕ) → Bool
@@ -165,6 +165,84 @@ passes (otherValue lent before damage key v w allowance apart) =
 
 -- Every row of the table passes.
 unfoldable pub allPass : List Row → Bool
-unfolding computed numbersSame saidSame afterCalls wordsSeen entriesSeen lookupsSeen outcomePasses listPasses inFront gatheredFrom gather partsSame partsGathered addressBehind differing ifAny valueApart otherPasses prepared windowBuckets passes
+unfolding computed numbersSame saidSame afterCalls wordsSeen entriesSeen lookupsSeen outcomePasses listPasses inFront gatheredFrom gather listsSame partsGathered addressBehind differing valueApart otherPasses prepared windowBuckets passes
 allPass [] = true
 allPass (r ∷ rs) = passes r && allPass rs
+
+-- ---- What the tests find is so
+
+pub words-seen : (a : List ℕ) (ss : List Store) → wordsSeen a ss ≡ true → Every (λ s. word a (s .at) ≡ s .value) ss
+unfolding wordsSeen
+words-seen a [] e = Prim.tt
+words-seen a (s ∷ ss) e = (
+  eqb-true (word a (s .at)) (s .value) (and-left (eqb (word a (s .at)) (s .value)) (wordsSeen a ss) e),
+  words-seen a ss (and-right (eqb (word a (s .at)) (s .value)) (wordsSeen a ss) e),
+)
+
+-- From index i on, the entries name these segments, with these local depths.
+abbrev EntriesName : List ℕ → (i : ℕ) → List Names → Type 0
+EntriesName a i [] = Unit {0}
+EntriesName a i (n ∷ ns) =
+    ((segmentOf (entryAt a (depth a) i) ≡ n .segment) × (localDepth (entryAt a (depth a) i) ≡ n .depth)) × EntriesName a (suc i) ns
+
+entries-seen : (a : List ℕ) (i : ℕ) (ns : List Names) → entriesSeen a i ns ≡ true → EntriesName a i ns
+unfolding entriesSeen
+entries-seen a i [] e = Prim.tt
+entries-seen a i (n ∷ ns) e =
+    let s : Bool = eqb (segmentOf (entryAt a (depth a) i)) (n .segment) in
+    let d : Bool = eqb (localDepth (entryAt a (depth a) i)) (n .depth) in
+    let both = and-left (s && d) (entriesSeen a (suc i) ns) e in (
+      (eqb-true (segmentOf (entryAt a (depth a) i)) (n .segment) (and-left s d both), eqb-true (localDepth (entryAt a (depth a) i)) (n .depth) (and-right s d both)),
+      entries-seen a (suc i) ns (and-right (s && d) (entriesSeen a (suc i) ns) e),
+    )
+
+-- Gets of the keys say this.
+abbrev GetsSay : List ℕ → List Lookup → Type 0
+GetsSay a [] = Unit {0}
+GetsSay a (l ∷ ls) = (get a (l .key) ≡ l .said) × GetsSay a ls
+
+lookups-seen : (a : List ℕ) (ls : List Lookup) → lookupsSeen a ls ≡ true → GetsSay a ls
+unfolding lookupsSeen
+lookups-seen a [] e = Prim.tt
+lookups-seen a (l ∷ ls) e =
+    let s : Bool = saidSame (get a (l .key)) (l .said) in
+    (same-said (get a (l .key)) (l .said) (and-left s (lookupsSeen a ls) e), lookups-seen a ls (and-right s (lookupsSeen a ls) e))
+
+parts-gathered : (found wanted : Option (List (List ℕ))) → partsGathered found wanted ≡ true → found ≡ wanted
+unfolding partsGathered
+parts-gathered none none e = refl
+parts-gathered none (some parts) e = absurd (false≢true e)
+parts-gathered (some found) none e = absurd (false≢true e)
+parts-gathered (some found) (some parts) e = ap some (same-lists found parts e)
+
+shift : (i j : ℕ) → i + suc j ≡ suc i + j
+shift i j = omega arith
+
+-- A word that differs is among those that are named.
+all-differing : (i : ℕ) (x y : List ℕ) (j : ℕ) → (List·Memᴰ (i + j) (differing i x y) → ⊥) → word x j ≡ word y j
+unfolding differing
+all-differing i [] [] j other = refl
+all-differing i [] (w ∷ y) zero other = absurd (other (List·Memᴰ·head (add-zero i)))
+all-differing i [] (w ∷ y) (suc j) other = all-differing (suc i) [] y j (λ m. other (List·Memᴰ·tail (Memᴰ·cast (shift i j) m)))
+all-differing i (v ∷ x) [] zero other = absurd (other (List·Memᴰ·head (add-zero i)))
+all-differing i (v ∷ x) [] (suc j) other = all-differing (suc i) x [] j (λ m. other (List·Memᴰ·tail (Memᴰ·cast (shift i j) m)))
+all-differing i (v ∷ x) (w ∷ y) zero other =
+    ⊎-elim
+    (λ (e : eqb v w ≡ true). eqb-true v w e)
+    (λ (e : eqb v w ≡ false). absurd (other (rw e (List·Memᴰ·head (add-zero i)))))
+    (cases (eqb v w))
+all-differing i (v ∷ x) (w ∷ y) (suc j) other =
+    all-differing (suc i) x y j
+    (λ m.
+    other
+    (⊎-elim
+    (λ (e : eqb v w ≡ true). rw e (Memᴰ·cast (shift i j) m))
+    (λ (e : eqb v w ≡ false). rw e (List·Memᴰ·tail (Memᴰ·cast (shift i j) m)))
+    (cases (eqb v w))))
+
+value-apart : (x y : List ℕ) (key i : ℕ) → valueApart x y key (i ∷ []) ≡ true → (valueWord x key ≡ some i) × (valueWord y key ≡ some i)
+unfolding valueApart
+value-apart x y key i e =
+    let first : Bool = numbersSame (ifAny (valueWord x key)) (i ∷ []) in
+    let second : Bool = numbersSame (ifAny (valueWord y key)) (i ∷ []) in
+    (same-if-any (valueWord x key) (some i) (and-left first second e), same-if-any (valueWord y key) (some i) (and-right first second e))

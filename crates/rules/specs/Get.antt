@@ -1,17 +1,19 @@
 -- Document 01, 'The calls and their stores': get, which makes no store.
 -- Assumes nothing.
 use Prim.Native.Nat.{ℕ}
+use mathlib.Core.Path.{_≡_}
 use mathlib.Core.Bool.{not}
 use mathlib.Core.List.{List, [], _∷_}
 use mathlib.Core.Option.{Option, none, some}
 use lib.Dec.{eqb}
+use Rattle.stores.specs.Store.{word}
 use Rattle.replies.specs.declared.Refusal.{Refusal}
 use Rattle.replies.specs.declared.Refusal.the-variants.{NoStore, NoKey, Broken}
 use Rattle.rules.specs.Layout.{validHeader, depth, maxDepth, segments, entryAt, segmentOf, segmentAddress, valueAt}
 use Rattle.rules.specs.Keys.{index}
 use Rattle.rules.specs.Scan.{inRange}
 use Rattle.rules.specs.Slots.{hit}
-use Rattle.replies.specs.Replies.{Said, done, absent, unless, replied}
+use Rattle.replies.specs.Replies.{Said, done, absent, refused, unless, replied}
 
 -- The entry of the key, in the present directory.
 unfoldable pub keyEntry : List ℕ → (key : ℕ) → ℕ
@@ -41,3 +43,11 @@ valueAtHit a base (some j) = done (valueAt a base j ∷ [])
 -- What a get of the key says.
 unfoldable pub get : List ℕ → (key : ℕ) → Said
 get a key = replied (getTests a key) (valueAtHit a (keySegment a key) (hit a (keySegment a key) key))
+
+-- What a get of any key says is one of these: done with one word of the array, absent, or 1, 2 or 3.
+pub data GetSays (a : List ℕ) (s : Said) : Type 0 where
+  finds : (i : ℕ) → s ≡ done (word a i ∷ []) → GetSays a s
+  misses : s ≡ absent → GetSays a s
+  no-store : s ≡ refused 1 → GetSays a s
+  no-key : s ≡ refused 2 → GetSays a s
+  broken : s ≡ refused 3 → GetSays a s

@@ -20,3 +20,4 @@ pub mod Finished
 pub mod RolledBack
 pub mod Full
 pub mod Given
+pub mod Limits

@@ -3,11 +3,18 @@
 use Prim.Native.Nat.{ℕ, _*_}
 use mathlib.Core.Path.{_≡_}
 use mathlib.Core.List.{List, [], _∷_}
-use lib.ListN.{take}
+use lib.ListN.{length, take}
+use Rattle.stores.specs.Written.{atFront}
 use Rattle.replies.specs.declared.Answer.{Answer}
 use Rattle.replies.specs.Replies.{done, saidBy}
 use Rattle.rules.specs.declared.Call.the-variants.{List as ListCall}
+use Rattle.rules.specs.Listing.{records, wordsOf}
 use Rattle.rules.specs.Step.{step, Performed}
+
+-- A list of the index array a into the list array l has said n records and is done: it has left exactly the defined words in front.
+pub record ListDone (a l : List ℕ) (n : ℕ) : Type 0 where
+  pub count : n ≡ length (records a)
+  pub left : (step a l ListCall) .list ≡ atFront (wordsOf (records a)) l
 
 -- One list says n records and leaves l, the other says k and leaves m: as many, and the same words in front.
 pub record SameRecords (n : ℕ) (l : List ℕ) (k : ℕ) (m : List ℕ) : Type 0 where

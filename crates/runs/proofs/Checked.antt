@@ -1,16 +1,17 @@
--- What the claims say of a run and of mends, the computed tests find.
+-- What the claims say of a run and of mends, the computed tests find; and what the tests find of the keys that are asked for, the claims say.
 -- Assumes nothing.
 use Prim.Native.Nat.{ℕ}
 use mathlib.Core.Path.{_≡_, refl}
-use mathlib.Core.Bool.{true, false, not}
-use mathlib.Core.List.{List, [], _∷_}
+use mathlib.Core.Bool.{Bool, true, false, not}
+use mathlib.Core.List.{List, [], _∷_, List·Memᴰ, List·Memᴰ·not-nil, List·Memᴰ·cases-cons}
 use mathlib.Core.Logic.{⊎-elim}
 use borrow.Author.Tests.{eq-eqb}
-use Rattle.stores.proofs.Tests.{cases, and-true, or-right}
+use Rattle.stores.proofs.Tests.{cases, and-left, and-right, and-true, or-right}
 use Rattle.stores.specs.Lists.{numbersSame}
 use Rattle.replies.specs.declared.Following.{Following}
 use Rattle.replies.specs.declared.Following.the-variants.{Next, Last}
 use Rattle.replies.specs.Replies.{Said, done, listed, absent, refused, followingSame, saidSame}
+use Rattle.replies.proofs.Same.{same-said}
 use Rattle.runs.specs.Map.{Map, View, formats, gets, puts, removes, mends, looks, keeps, mapSays}
 use Rattle.runs.specs.Run.{Machine, Point, claimed, next, finish, Linked, Reached, EachCall, GetAgrees, CallAgrees, AgreesWithMap}
 use Rattle.runs.specs.BeforeMending.{mendsToCompletion, LookupsBeforeMending}
@@ -94,3 +95,51 @@ mends-checked M Start lookup so claim keys p reached calls linked e =
     and-true e
     (answers-checked lookup (p .array) b keys
     (λ key k. claim p reached calls linked e key k (lookup (p .array) key) (lookup b key) (so (p .array) key) (so b key)))
+
+-- ---- What the tests find
+
+-- The test of a claimed key passes only where both say the same.
+same-found : (key : ℕ) (s t : Said) → sameOf key s t ≡ true → claimed key ≡ true → s ≡ t
+same-found key s t e c = same-said s t (rw c at e)
+
+call-found : (view : View) (said : Said) (m : Map) → getAgrees view said m ≡ true → GetAgrees view said m
+unfolding getAgrees
+call-found formats said m e = Prim.tt
+call-found (gets key) said m e = same-found key said (mapSays (m key)) e
+call-found (puts key value) said m e = Prim.tt
+call-found (removes key) said m e = Prim.tt
+call-found mends said m e = Prim.tt
+call-found looks said m e = Prim.tt
+call-found keeps said m e = Prim.tt
+
+pub calls-found : (M : Machine) (p : Point) (calls : List (M .Call)) → callsAgree M p calls ≡ true → EachCall M (CallAgrees M) p calls
+unfolding callsAgree EachCall
+calls-found M p [] e = Prim.tt
+calls-found M p (c ∷ cs) e =
+    let here : Bool = getAgrees (M .view c) ((M .step (p .array) c) .reply) (p .map) in
+    let later : Bool = callsAgree M (next M p c) cs in
+    (call-found (M .view c) ((M .step (p .array) c) .reply) (p .map) (and-left here later e), calls-found M (next M p c) cs (and-right here later e))
+
+pub gets-found : (lookup : List ℕ → ℕ → Said) (p : Point) (keys : List ℕ) → getsAgree lookup p keys ≡ true
+    → (key : ℕ) → List·Memᴰ key keys → claimed key ≡ true → lookup (p .array) key ≡ mapSays (p .map key)
+unfolding getAgrees getsAgree
+gets-found lookup p [] e key m c = absurd (List·Memᴰ·not-nil m)
+gets-found lookup p (k ∷ keys) e key m c =
+    let here : Bool = sameOf k (lookup (p .array) k) (mapSays (p .map k)) in
+    let later : Bool = getsAgree lookup p keys in
+    ⊎-elim
+    (λ (q : key ≡ k). rw q (same-found k (lookup (p .array) k) (mapSays (p .map k)) (and-left here later e) (rw q at c)))
+    (λ (q : List·Memᴰ key keys). gets-found lookup p keys (and-right here later e) key q c)
+    (List·Memᴰ·cases-cons m)
+
+pub answers-found : (lookup : List ℕ → ℕ → Said) (a b : List ℕ) (keys : List ℕ) → sameAnswers lookup a b keys ≡ true
+    → (key : ℕ) → List·Memᴰ key keys → claimed key ≡ true → lookup a key ≡ lookup b key
+unfolding sameAnswers
+answers-found lookup a b [] e key m c = absurd (List·Memᴰ·not-nil m)
+answers-found lookup a b (k ∷ keys) e key m c =
+    let here : Bool = sameOf k (lookup a k) (lookup b k) in
+    let later : Bool = sameAnswers lookup a b keys in
+    ⊎-elim
+    (λ (q : key ≡ k). rw q (same-found k (lookup a k) (lookup b k) (and-left here later e) (rw q at c)))
+    (λ (q : List·Memᴰ key keys). answers-found lookup a b keys (and-right here later e) key q c)
+    (List·Memᴰ·cases-cons m)

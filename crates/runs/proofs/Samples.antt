@@ -3,7 +3,7 @@
 -- Assumes nothing.
 use Prim.Native.Nat.{ℕ}
 use mathlib.Core.Path.{_≡_, refl}
-use mathlib.Core.Bool.{Bool, true, false, not, _&&_, _||_}
+use mathlib.Core.Bool.{Bool, true, false, false≢true, not, _&&_, _||_}
 use mathlib.Core.List.{List, [], _∷_}
 use lib.Dec.{eqb}
 use Rattle.stores.specs.Lists.{pick, numbersSame}
@@ -46,6 +46,13 @@ pub record Sample : Type 0 where
 
 unfoldable pub same : Bool → Bool → Bool
 same x y = x && y || not x && not y
+
+pub same-tests : (x y : Bool) → same x y ≡ true → x ≡ y
+unfolding same
+same-tests true true e = refl
+same-tests true false e = absurd (false≢true e)
+same-tests false true e = absurd (false≢true e)
+same-tests false false e = refl
 
 passes : Sample → Bool
 passes s =

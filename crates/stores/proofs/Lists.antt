@@ -8,8 +8,10 @@ use mathlib.Core.Logic.{⊎-elim}
 use Prim.Native.Nat.{ℕ, zero, suc, _+_, _*_, _≤_, _<_}
 use native.Mathlib.Nat.{le-refl, not-suc-le-zero, eq-or-lt-of-le, le-of-suc-le-suc, le-step, mul-suc}
 use native.Mathlib.Omega.{arith}
+use borrow.Author.Tests.{eqb-true}
+use lib.Dec.{eqb}
 use lib.ListN.{length, take, length-append}
-use Rattle.stores.specs.Lists.{pick, each, firstIn, allBelow, anyBelow}
+use Rattle.stores.specs.Lists.{pick, each, firstIn, allBelow, anyBelow, numbersSame, listsSame, ifAny}
 use Rattle.stores.specs.Store.{Store, Every}
 use Rattle.stores.proofs.Tests.{cases, and-left, and-right, and-true, or-cases, or-left, or-right}
 
@@ -223,3 +225,30 @@ pub ahead-ahead : (ns ms : List ℕ) (o : Option (List ℕ)) → ahead ns (ahead
 unfolding ahead
 ahead-ahead ns ms none = refl
 ahead-ahead ns ms (some ks) = ap some (sym (append-assoc ns ms ks))
+
+-- ---- Lists that the tests find to be the same
+
+pub same-numbers : (xs ys : List ℕ) → numbersSame xs ys ≡ true → xs ≡ ys
+unfolding numbersSame
+same-numbers [] [] e = refl
+same-numbers [] (y ∷ ys) e = absurd (false≢true e)
+same-numbers (x ∷ xs) [] e = absurd (false≢true e)
+same-numbers (x ∷ xs) (y ∷ ys) e =
+    ap₂ (λ (z : ℕ) (zs : List ℕ). z ∷ zs) (eqb-true x y (and-left (eqb x y) (numbersSame xs ys) e))
+    (same-numbers xs ys (and-right (eqb x y) (numbersSame xs ys) e))
+
+pub same-lists : (xs ys : List (List ℕ)) → listsSame xs ys ≡ true → xs ≡ ys
+unfolding listsSame
+same-lists [] [] e = refl
+same-lists [] (y ∷ ys) e = absurd (false≢true e)
+same-lists (x ∷ xs) [] e = absurd (false≢true e)
+same-lists (x ∷ xs) (y ∷ ys) e =
+    ap₂ (λ (z : List ℕ) (zs : List (List ℕ)). z ∷ zs) (same-numbers x y (and-left (numbersSame x y) (listsSame xs ys) e))
+    (same-lists xs ys (and-right (numbersSame x y) (listsSame xs ys) e))
+
+pub same-if-any : (x y : Option ℕ) → numbersSame (ifAny x) (ifAny y) ≡ true → x ≡ y
+unfolding numbersSame
+same-if-any none none e = refl
+same-if-any none (some n) e = absurd (false≢true e)
+same-if-any (some m) none e = absurd (false≢true e)
+same-if-any (some m) (some n) e = ap some (eqb-true m n (and-left (eqb m n) true e))

@@ -1,10 +1,12 @@
 -- A plan of three stores on an array of three words, under each allowance, where the next store goes, stores in a part, and words in
--- front: tables that antt computes from the definitions.
+-- front, and lists told apart: tables that antt computes from the definitions.
 -- Assumes nothing.
 use Prim.Native.Nat.{ℕ}
 use mathlib.Core.Path.{_≡_, refl}
+use mathlib.Core.Bool.{Bool, true, false}
 use mathlib.Core.List.{List, [], _∷_}
 use mathlib.Core.Option.{Option, none, some}
+use Rattle.stores.specs.Lists.{numbersSame, listsSame}
 use Rattle.stores.specs.Store.{store, apply, exec, shifted}
 use Rattle.stores.specs.Plan.{Plan, Outcome, cut}
 use Rattle.stores.specs.Written.{atFront}
@@ -42,3 +44,17 @@ pub in-front : _≡_ {A = List (List ℕ)}
     (atFront (8 ∷ 9 ∷ []) (5 ∷ 6 ∷ 7 ∷ []) ∷ atFront (8 ∷ 9 ∷ []) (5 ∷ 6 ∷ []) ∷ atFront [] (5 ∷ 6 ∷ []) ∷ [])
     ((8 ∷ 9 ∷ 7 ∷ []) ∷ (8 ∷ 9 ∷ []) ∷ (5 ∷ 6 ∷ []) ∷ [])
 in-front = refl
+
+-- Two numbers and the same two; one more or one less, on either side; and another first or last one. The same with lists of one list.
+pub numbers-told : _≡_ {A = List Bool}
+    (numbersSame (1 ∷ 2 ∷ []) (1 ∷ 2 ∷ []) ∷ numbersSame (1 ∷ []) (1 ∷ 2 ∷ []) ∷ numbersSame (1 ∷ 2 ∷ []) (1 ∷ []) ∷ numbersSame (3 ∷ 2 ∷ []) (1 ∷ 2 ∷ [])
+    ∷ numbersSame (1 ∷ 3 ∷ []) (1 ∷ 2 ∷ []) ∷ [])
+    (true ∷ false ∷ false ∷ false ∷ false ∷ [])
+unfolding numbersSame
+numbers-told = refl
+
+pub lists-told : _≡_ {A = List Bool}
+    (listsSame ((1 ∷ 2 ∷ []) ∷ []) ((1 ∷ 2 ∷ []) ∷ []) ∷ listsSame [] ([] ∷ []) ∷ listsSame ([] ∷ []) [] ∷ listsSame ((1 ∷ []) ∷ []) ((2 ∷ []) ∷ []) ∷ [])
+    (true ∷ false ∷ false ∷ false ∷ [])
+unfolding numbersSame listsSame
+lists-told = refl

@@ -39,3 +39,15 @@ numbersSame [] [] = true
 numbersSame [] (y ∷ ys) = false
 numbersSame (x ∷ xs) [] = false
 numbersSame (x ∷ xs) (y ∷ ys) = eqb x y && numbersSame xs ys
+
+-- Two lists of such lists are the same.
+unfoldable pub listsSame : (xs ys : List (List ℕ)) → Bool
+listsSame [] [] = true
+listsSame [] (y ∷ ys) = false
+listsSame (x ∷ xs) [] = false
+listsSame (x ∷ xs) (y ∷ ys) = numbersSame x y && listsSame xs ys
+
+-- A number that may be there, as a list.
+abbrev pub ifAny : Option ℕ → List ℕ
+ifAny none = []
+ifAny (some n) = n ∷ []

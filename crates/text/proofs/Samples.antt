@@ -5,7 +5,7 @@ use mathlib.Core.Path.{_≡_, refl}
 use mathlib.Core.Bool.{Bool, true, false, _&&_}
 use mathlib.Core.List.{List, [], _∷_}
 use mathlib.Core.Option.{Option, none, some}
-use Rattle.stores.specs.Lists.{numbersSame}
+use Rattle.stores.specs.Lists.{numbersSame, listsSame, ifAny}
 use Rattle.text.specs.Parts.{startedBy, parts, nonempty, linesOf}
 use Rattle.text.specs.Number.{isDigit, allDigits, valueFrom, number, spelled, decimal}
 
@@ -17,24 +17,14 @@ pub data Row : Type 0 where
   -- the digits of a number
   writes : ℕ → List ℕ → Row
 
-linesSame : List (List ℕ) → List (List ℕ) → Bool
-linesSame [] [] = true
-linesSame [] (y ∷ ys) = false
-linesSame (x ∷ xs) [] = false
-linesSame (x ∷ xs) (y ∷ ys) = numbersSame x y && linesSame xs ys
-
-numbers : Option ℕ → List ℕ
-numbers none = []
-numbers (some n) = n ∷ []
-
 passes : Row → Bool
-passes (spells field n) = numbersSame (numbers (number field)) (numbers n)
-passes (lines script ls) = linesSame (linesOf script) ls
+passes (spells field n) = numbersSame (ifAny (number field)) (ifAny n)
+passes (lines script ls) = listsSame (linesOf script) ls
 passes (writes n digits) = numbersSame (decimal n) digits
 
 -- Every row of the table passes.
 unfoldable pub allPass : List Row → Bool
-unfolding numbersSame linesSame numbers passes
+unfolding numbersSame listsSame passes
 allPass [] = true
 allPass (r ∷ rs) = passes r && allPass rs
 
