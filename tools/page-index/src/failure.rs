@@ -67,10 +67,28 @@ impl Failure {
         Failure::Damaged(format!("{path}: {why}"))
     }
 
+    /// The same, with one thing more said.
+    pub fn with(self, more: String) -> Failure {
+        let and = |said| format!("{said}; {more}");
+        match self {
+            Failure::Usage(said) => Failure::Usage(and(said)),
+            Failure::File(said) => Failure::File(and(said)),
+            Failure::Damaged(said) => Failure::Damaged(and(said)),
+            Failure::Unmended(said) => Failure::Unmended(and(said)),
+            Failure::Refused(said) => Failure::Refused(and(said)),
+            Failure::Output(error) => Failure::Output(error),
+        }
+    }
+
+    /// Says it on standard error.
+    pub fn tell(&self) {
+        eprintln!("page-index: {self}");
+    }
+
     /// A refusal of the library, with what the words show of its reason.
     pub fn refused(path: &str, words: &[u64], refused: Refused) -> Failure {
         let said = format!("{path}: refused with {}, {}", refused.refusal as u32, reason(refused.refusal));
-        let seen = Shape::read(words).and_then(|shape| shape.blocks(words)).err();
+        let seen = Shape::read(words).and_then(|shape| shape.check_directory(words)).err();
         match (refused.refusal, seen) {
             (Refusal::NoStore | Refusal::Broken, Some(damage)) => Failure::damaged(path, damage),
             (Refusal::NoStore | Refusal::Broken, None) => Failure::Damaged(said),

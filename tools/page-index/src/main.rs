@@ -1,14 +1,19 @@
 //! `page-index`: looks at an index in a file, compares two, and makes the calls on it. `page-index --help` says how.
 mod arguments;
 mod calls;
+mod damage;
 mod diff;
 mod dump;
 mod failure;
 mod find;
+mod findings;
+mod formatting;
 mod mending;
 mod numbers;
 mod progress;
+mod putting;
 mod reading;
+mod restored;
 mod show;
 mod stat;
 mod svg;
@@ -31,16 +36,17 @@ Looking (nothing is written to FILE):
   page-index find FILE KEY          where a key is looked for: entry, segment, the sixteen slots with byte offsets
   page-index show FILE              directory and segments, drawn as text
              --records              every record with its place, live or stale
-             --svg OUT              as a picture; OUT must not be there, or be a picture
+             --svg OUT              as a picture; OUT must not be there, or be such a picture
   page-index diff A B               the records that differ
              --words                the words that differ, and what each is
 
 The calls, by the proved library on the mapped file:
   page-index format FILE D S        an empty index; a FILE that is not there, or empty, gets its length.
-                                    --force empties an index
+                                    A FILE of which a word is not 0 is not new: --force empties it
   page-index get FILE KEY
   page-index put FILE KEY VALUE
-  page-index put FILE -             the records of standard input, as list writes them
+  page-index put FILE -             the records of standard input, as list writes them; the first line that is refused
+                                    or no record ends it, with --keep-going it is said, counted and passed over
   page-index remove FILE KEY
   page-index mend FILE              refused where lookups would change, by damage; --force mends all the same
   page-index merge FILE KEY         --all in place of KEY: until nothing merges
@@ -67,7 +73,7 @@ fn looking(out: &mut dyn Write, command: &str, mut given: Arguments) -> Ended {
             let dump = Dump { path: &path, words: &open(&path)? };
             match svg {
                 Some(_) if records => Err(Failure::Usage("show takes --records or --svg, not both".to_string())),
-                Some(picture) => draw(&dump, &picture),
+                Some(picture) => svg::draw(&dump, &picture),
                 None if records => show::records(out, &dump),
                 None => show::show(out, &dump),
             }
@@ -83,23 +89,12 @@ fn looking(out: &mut dyn Write, command: &str, mut given: Arguments) -> Ended {
     }
 }
 
-/// Writes the picture of an index to a file. A damaged index has none, and no file is made. A file that is there is
-/// replaced only if it is a picture: it may be an index, this one too.
-fn draw(dump: &Dump, picture: &str) -> Ended {
-    let (shape, blocks) = dump.read()?;
-    if std::fs::read(picture).is_ok_and(|bytes| !bytes.is_empty() && !bytes.starts_with(b"<svg ")) {
-        return Err(Failure::file(picture, "it is there and no picture, and is left as it is"));
-    }
-    std::fs::write(picture, svg::picture(&shape, dump.words, &blocks))
-        .map_err(|error| Failure::file(picture, error))?;
-    Ok(Outcome::Done)
-}
-
 /// A put of one record, or of those of standard input.
 fn putting(out: &mut dyn Write, mut given: Arguments) -> Ended {
     if given.is_last("-") {
+        let keep_going = given.flag("--keep-going");
         let [path, _] = given.others("FILE -")?;
-        return calls::put_lines(out, &path, io::stdin().lock());
+        return putting::put_lines(out, &path, io::stdin().lock(), keep_going);
     }
     let allowance = given.allowance()?;
     let [path, key, value] = given.others("FILE KEY VALUE")?;
@@ -122,7 +117,7 @@ fn calling(out: &mut dyn Write, command: &str, mut given: Arguments) -> Ended {
         "format" => {
             let (force, allowance) = (given.flag("--force"), given.allowance()?);
             let [path, depth, segments] = given.others("FILE D S")?;
-            calls::format(out, &path, (number_of("D", &depth)?, number_of("S", &segments)?), force, allowance)
+            formatting::format(out, &path, (number_of("D", &depth)?, number_of("S", &segments)?), force, allowance)
         }
         "get" => {
             let [path, key] = given.others("FILE KEY")?;
@@ -177,7 +172,7 @@ fn main() -> ExitCode {
         Err(failure) => {
             // What was written so far comes first.
             let _ = out.flush();
-            eprintln!("page-index: {failure}");
+            failure.tell();
             ExitCode::from(failure.status())
         }
     }

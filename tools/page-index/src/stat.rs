@@ -2,10 +2,10 @@
 use crate::calls::Ended;
 use crate::dump::Dump;
 use crate::failure::Outcome;
-use crate::mending::changed_by_mend;
+use crate::findings::Findings;
 use crate::numbers::counted;
-use crate::reading::{Block, Shape, Slot, State, SLOTS};
-use std::collections::BTreeSet;
+use crate::reading::{not_zero, Block, Shape, State, SLOTS};
+use crate::restored;
 use std::io::{self, Write};
 
 /// The records of an index, counted.
@@ -20,13 +20,6 @@ fn count(words: &[u64], shape: &Shape, blocks: &[Block]) -> Counts {
     let of = |block, state| shape.slots(words, block).filter(|slot| slot.state == state).count();
     let loads: Vec<usize> = blocks.iter().map(|block| of(block, State::Live)).collect();
     Counts { live: loads.iter().sum(), stale: blocks.iter().map(|block| of(block, State::Stale)).sum(), loads }
-}
-
-/// The live records that no lookup finds: they stand outside their key's window, or behind the same key.
-pub fn strays(words: &[u64], shape: &Shape, blocks: &[Block]) -> usize {
-    let first = |block, key| shape.first_with(words, block, key);
-    let stray = |block, slot: &Slot| slot.state == State::Live && first(block, slot.key) != Some(slot.number);
-    blocks.iter().map(|block| shape.slots(words, block).filter(|slot| stray(block, slot)).count()).sum()
 }
 
 /// The keys in segments that no entry names: no lookup reads them.
@@ -81,23 +74,16 @@ fn say_records(out: &mut dyn Write, words: &[u64], shape: &Shape, blocks: &[Bloc
     say_load(out, shape, &loads)
 }
 
-/// Damage that no call takes for such, if there is any: what no run of calls leaves.
-pub fn unnoticed(words: &[u64], shape: &Shape, blocks: &[Block]) -> Option<String> {
-    let segments: BTreeSet<usize> = blocks.iter().map(|block| block.entry.segment).collect();
-    let shared = blocks.len() - segments.len();
-    let damage: Vec<String> = [
-        (shared, "segments that two blocks name"),
-        (strays(words, shape, blocks), "live records that no lookup finds"),
-        (changed_by_mend(words, shape, blocks), "lookups that a mend changes"),
-    ]
-    .into_iter()
-    .filter(|(number, _)| *number > 0)
-    .map(|(number, what)| format!("{what}: {number}"))
-    .collect();
-    (!damage.is_empty()).then(|| damage.join("; "))
+/// Says what is in a file whose word 0 is 0 while others are not: much, if word 0 alone is damaged.
+fn say_words(out: &mut dyn Write, words: &[u64]) -> io::Result<()> {
+    writeln!(out, "words               {} in the file, {} of them not 0", words.len(), not_zero(words))?;
+    writeln!(out, "word 0 put right    {}", restored::said(words))
 }
 
 pub fn stat(out: &mut dyn Write, dump: &Dump) -> Ended {
+    if dump.words.first() == Some(&0) && not_zero(dump.words) > 0 {
+        say_words(out, dump.words)?;
+    }
     let shape = dump.shape()?;
     writeln!(out, "largest depth D     {}", shape.max_depth)?;
     writeln!(out, "segments S          {}", shape.segments)?;
@@ -105,12 +91,13 @@ pub fn stat(out: &mut dyn Write, dump: &Dump) -> Ended {
     writeln!(out, "words               {}, of {} in the file", shape.words(), dump.words.len())?;
     let (_, blocks) = dump.read()?;
     say_records(out, dump.words, &shape, &blocks)?;
-    match blocks.iter().map(|block| block.unequal).sum() {
+    let findings = Findings::of(dump.words, &shape, &blocks);
+    match findings.mending.stores {
         0 => writeln!(out, "mended              yes")?,
-        unequal => writeln!(out, "mended              no: a mend has {} to make", counted(unequal, "store"))?,
+        stores => writeln!(out, "mended              no: a mend has {} to make", counted(stores, "store"))?,
     }
-    match unnoticed(dump.words, &shape, &blocks) {
-        None => Ok(Outcome::Done),
-        Some(damage) => Err(dump.damaged(format!("damaged, as no call leaves it: {damage}"))),
+    match findings.is_damage() {
+        false => Ok(Outcome::Done),
+        true => Err(dump.damaged(format!("damaged, as no call leaves it: {findings}"))),
     }
 }
