@@ -4,6 +4,7 @@
  * the page is as it was told, also if the process is killed. What is refused is said on standard error.
  *
  *     mapped_example FILE
+ *     mapped_example --version
  */
 #define _DEFAULT_SOURCE
 #include "page_index.h"
@@ -222,6 +223,7 @@ int main(int argc, char **argv)
 {
     char line[256];
     if (argc != 2) stop("usage", "mapped_example FILE");
+    if (strcmp(argv[1], "--version") == 0) return puts("mapped_example " PAGE_INDEX_VERSION) < 0;
     uint64_t *words = map_file(argv[1]);
     start(words);
     for (unsigned long number = 1; read_line(line, sizeof line); number++) run_line(words, number, line);

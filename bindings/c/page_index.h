@@ -122,8 +122,8 @@
  * being written before it is called, so it gives no order to the stores in the middle of a call, nor to
  * those of the calls since the last msync. The same holds of persistent memory behind a processor cache
  * whose lines are lost with the power. Against such cuts keep copies: between two calls write the words to
- * another file, fsync it, rename it over the last copy, fsync the folder. A copy needs no mend before it
- * is made.
+ * another file, fsync it, rename it over the last copy, fsync the folder; tools/page-index copy does that
+ * while no program has the file. A copy needs no mend before it is made.
  *
  * POWER CUTS
  *
@@ -150,7 +150,7 @@
  * may overwrite them. Other changes of an entry look like a call that was cut off: put, remove, merge and
  * the lists answer 4. If it is the first entry of a block, the mend writes it over the block, and pages are
  * absent that a get still found; if it is another one, the mend puts it right. Where memory can be damaged
- * keep copies, or a sum of the listing, and copy the words before a mend. tools/page-index stat tells some
+ * keep copies, or a sum of the listing, and copy the words before a mend. tools/page-index check tells some
  * damage of these kinds, and its mend is not made where a lookup would change.
  *
  * ALLOWANCES
@@ -195,7 +195,10 @@
 extern "C" {
 #endif
 
-/* The words that an index of this shape takes. */
+/* The version of this header; the Rust crate, the Python module and tools/page-index say the same. */
+#define PAGE_INDEX_VERSION "0.1.0"
+
+/* The words that an index of this shape takes, where format does not refuse it with 8. */
 #define PAGE_INDEX_WORDS(depth, segments) (((size_t)2 << (depth)) + 128 * (size_t)(segments))
 
 /* An allowance that cuts no call off. */

@@ -3,6 +3,7 @@
 on the page is as it was told, also if the process is killed. What is refused is said on standard error.
 
     python3 bindings/python/example.py FILE
+    python3 bindings/python/example.py --version
 """
 import fcntl
 import mmap
@@ -158,6 +159,9 @@ def main(path):
 if __name__ == "__main__":
     if len(sys.argv) != 2:
         sys.exit("usage: example.py FILE")
+    if sys.argv[1] == "--version":
+        print("example.py", page_index.__version__)
+        sys.exit()
     try:
         main(sys.argv[1])
     except (Refused, OSError) as error:

@@ -103,6 +103,9 @@ import enum
 import operator
 import os
 
+# The version of this module; the header, the Rust crate and tools/page-index say the same.
+__version__ = "0.1.0"
+
 # An allowance that cuts no call off.
 ALL = 2**32 - 1
 

@@ -3,8 +3,9 @@
 //! printed when that is done. What is refused is said on standard error.
 //!
 //!     mapped FILE
+//!     mapped --version
 use page_index::mapped::MappedFileMut;
-use page_index::{blocks, format, is_new, mend, merge, put, remove, words_for, Refusal, Refused, ALL};
+use page_index::{blocks, format, is_new, mend, merge, put, remove, words_for, Refusal, Refused, ALL, VERSION};
 use std::error::Error;
 use std::io::{self, stdin, stdout, BufRead, Read, Write};
 use std::process::ExitCode;
@@ -133,6 +134,10 @@ fn main() -> ExitCode {
         eprintln!("usage: mapped FILE");
         return ExitCode::FAILURE;
     };
+    if path == "--version" {
+        println!("mapped {VERSION}");
+        return ExitCode::SUCCESS;
+    }
     match run(&path) {
         Ok(()) => ExitCode::SUCCESS,
         Err(error) => {

@@ -163,6 +163,9 @@ use std::fmt;
 /// An allowance that cuts no call off.
 pub const ALL: u32 = u32::MAX;
 
+/// The version of this crate; the header, the Python module and `page-index` say the same.
+pub const VERSION: &str = env!("CARGO_PKG_VERSION");
+
 /// The words that an index of largest directory depth `depth` with `segments` segments takes, 2^(depth + 1) + 128 ×
 /// segments. Refused with [`Refusal::BadShape`] where [`format()`] is.
 pub const fn words_for(depth: u64, segments: u64) -> Result<usize, Refused> {

@@ -1,4 +1,5 @@
 //! The calls, by the proved library on the mapped file.
+use crate::dump::Dump;
 use crate::failure::{Failure, Outcome};
 use crate::mending::Mending;
 use crate::numbers::counted;
@@ -29,16 +30,34 @@ pub fn stored(out: &mut dyn Write, path: &str, words: &[u64], answer: Result<u32
     Ok(Outcome::Done)
 }
 
-pub fn get(out: &mut dyn Write, path: &str, key: u64) -> Ended {
-    let words = open(path)?;
-    match page_index::get(&words, key).map_err(|refused| Failure::refused(path, &words, refused))? {
-        Some(value) => writeln!(out, "{value}")?,
-        None => {
-            writeln!(out, "absent")?;
-            return Ok(Outcome::No);
+/// Says that there is no such key.
+fn said_absent(out: &mut dyn Write) -> Ended {
+    writeln!(out, "absent")?;
+    Ok(Outcome::No)
+}
+
+/// Says what a get found, or that there is no such key.
+pub fn found(out: &mut dyn Write, path: &str, words: &[u64], answer: Result<Option<u64>, Refused>) -> Ended {
+    match answer.map_err(|refused| Failure::refused(path, words, refused))? {
+        None => said_absent(out),
+        Some(value) => {
+            writeln!(out, "{value}")?;
+            Ok(Outcome::Done)
         }
     }
-    Ok(Outcome::Done)
+}
+
+/// Says the stores of a remove that is done, or that there was no such key.
+pub fn removed(out: &mut dyn Write, path: &str, words: &[u64], answer: Result<Option<u32>, Refused>) -> Ended {
+    match answer {
+        Ok(None) => said_absent(out),
+        answer => stored(out, path, words, answer.map(|stores| stores.unwrap_or(0))),
+    }
+}
+
+pub fn get(out: &mut dyn Write, path: &str, key: u64) -> Ended {
+    let words = open(path)?;
+    found(out, path, &words, page_index::get(&words, key))
 }
 
 pub fn put(out: &mut dyn Write, path: &str, key: u64, value: u64, allowance: u32) -> Ended {
@@ -49,26 +68,43 @@ pub fn put(out: &mut dyn Write, path: &str, key: u64, value: u64, allowance: u32
 
 pub fn remove(out: &mut dyn Write, path: &str, key: u64, allowance: u32) -> Ended {
     let mut words = open_to_change(path)?;
-    match page_index::remove(&mut words, key, allowance) {
-        Ok(None) => {
-            writeln!(out, "absent")?;
-            Ok(Outcome::No)
+    let answer = page_index::remove(&mut words, key, allowance);
+    removed(out, path, &words, answer)
+}
+
+/// An index whose lookups a mend would change was damaged, and is left alone unless it is forced.
+fn must_keep_lookups(path: &str, mending: &Mending, force: bool) -> Result<(), Failure> {
+    match mending.changes_lookups() && !force {
+        false => Ok(()),
+        true => {
+            let said = "copy the file first, --force mends all the same";
+            Err(Failure::damaged(path, format!("damaged: {mending}; {said}")))
         }
-        answer => stored(out, path, &words, answer.map(|stores| stores.unwrap_or(0))),
     }
 }
 
-/// Mends. An index whose lookups a mend would change was damaged, and is left alone unless it is forced.
 pub fn mend(out: &mut dyn Write, path: &str, force: bool, allowance: u32) -> Ended {
     let mut words = open_to_change(path)?;
     // Where a leader is not valid the library refuses the mend.
     let mending = Shape::read(&words).and_then(|shape| Ok(Mending::of(&words, &shape, &shape.blocks(&words)?)));
-    if let Some(mending) = mending.ok().filter(|mending| mending.changes_lookups() && !force) {
-        let said = "copy the file first, --force mends all the same";
-        return Err(Failure::damaged(path, format!("damaged: {mending}; {said}")));
-    }
+    must_keep_lookups(path, &mending.unwrap_or_default(), force)?;
     let answer = page_index::mend(&mut words, allowance);
     stored(out, path, &words, answer)
+}
+
+/// Says what a mend would do, and ends as it would.
+pub fn mend_dry(out: &mut dyn Write, path: &str, force: bool) -> Ended {
+    let file = open(path)?;
+    let dump = Dump::of(path, &file);
+    let (shape, blocks) = dump.read()?;
+    let mending = Mending::of(dump.words, &shape, &blocks);
+    writeln!(out, "a mend has {} to make", counted(mending.stores, "store"))?;
+    match mending.changes_lookups() {
+        false => writeln!(out, "no lookup would change")?,
+        true => writeln!(out, "{mending}")?,
+    }
+    must_keep_lookups(path, &mending, force)?;
+    Ok(Outcome::Done)
 }
 
 pub fn merge(out: &mut dyn Write, path: &str, key: u64, allowance: u32) -> Ended {

@@ -3,7 +3,7 @@
 use crate::damage::Damage;
 use std::fmt;
 
-const MARK: u64 = 0x5041_4746;
+pub const MARK: u64 = 0x5041_4746;
 const OLD_MARK: u64 = 0x5041_4745;
 pub const SEGMENT_WORDS: usize = 128;
 pub const SLOTS: usize = 64;
