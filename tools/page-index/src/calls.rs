@@ -6,8 +6,11 @@ use crate::numbers::counted;
 use crate::progress::Progress;
 use crate::reading::Shape;
 use page_index::mapped::{MappedFile, MappedFileMut};
-use page_index::{Refusal, Refused, ALL};
+use page_index::{Refusal, Refused, ALL, BLOCK_WORDS};
 use std::io::Write;
+
+/// The words that the records of the most segments take, 4,096.
+const MOST_LISTED: usize = 4096 * BLOCK_WORDS;
 
 pub type Ended = Result<Outcome, Failure>;
 
@@ -145,8 +148,8 @@ pub fn merge_all(out: &mut dyn Write, path: &str) -> Ended {
 
 pub fn list(out: &mut dyn Write, path: &str) -> Ended {
     let words = open(path)?;
-    // As many words as the index has are always enough.
-    let mut list = vec![0; words.len()];
+    // As many words as the file has are always enough, and so are those of the most segments.
+    let mut list = vec![0; words.len().min(MOST_LISTED)];
     let records = page_index::list(&words, &mut list).map_err(|refused| Failure::refused(path, &words, refused))?;
     for record in list[..2 * records].chunks_exact(2) {
         writeln!(out, "{}\t{}", record[0], record[1])?;

@@ -124,13 +124,9 @@ fn is_picture(file: &mut File) -> io::Result<bool> {
     Ok(start == START.as_bytes())
 }
 
-/// Opens a file for a picture: one that is made just now, or that is there and a picture. Every other may be an index,
-/// this one too, and is left as it is.
+/// Opens a file that is there and a picture, and empties it. Every other may be an index, this one too, and is left as
+/// it is.
 fn open_picture(path: &str) -> Result<File, Failure> {
-    match OpenOptions::new().write(true).create_new(true).open(path) {
-        Err(error) if error.kind() == ErrorKind::AlreadyExists => (),
-        answer => return answer.map_err(|error| Failure::file(path, error)),
-    }
     let mut file =
         open_regular(path, OpenOptions::new().read(true).write(true)).map_err(|error| Failure::file(path, error))?;
     if !is_picture(&mut file).map_err(|error| Failure::file(path, error))? {
@@ -140,10 +136,19 @@ fn open_picture(path: &str) -> Result<File, Failure> {
     Ok(file)
 }
 
-/// Writes the picture of an index to a file. A damaged index has none, and no file is made.
+/// Writes the picture of an index to a file. A damaged index has none, and no file is made; nor is one left that could not
+/// be written to the end.
 pub fn draw(dump: &Dump, path: &str) -> Ended {
     let (shape, blocks) = dump.read()?;
     let svg = picture(&shape, dump.words, &blocks);
-    io::Write::write_all(&mut open_picture(path)?, svg.as_bytes()).map_err(|error| Failure::file(path, error))?;
+    let mut file = match OpenOptions::new().write(true).create_new(true).open(path) {
+        Err(error) if error.kind() == ErrorKind::AlreadyExists => open_picture(path)?,
+        made => made.map_err(|error| Failure::file(path, error))?,
+    };
+    io::Write::write_all(&mut file, svg.as_bytes()).map_err(|error| {
+        // What the error says counts, and not whether this works too.
+        let _ = std::fs::remove_file(path);
+        Failure::file(path, error)
+    })?;
     Ok(Outcome::Done)
 }

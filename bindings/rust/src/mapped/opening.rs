@@ -9,9 +9,24 @@ use std::path::Path;
 /// Without this flag the opening of a FIFO waits until somebody opens its other end.
 const O_NONBLOCK: c_int = 0o4000;
 
+/// The first fields of C's `struct statvfs`, and room for the others.
+#[repr(C)]
+#[derive(Default)]
+struct FileSystem {
+    block_bytes: u64,
+    fragment_bytes: u64,
+    fragments: u64,
+    free_fragments: u64,
+    others: [u64; 12],
+}
+
 extern "C" {
     fn posix_fallocate(file: c_int, offset: i64, bytes: i64) -> c_int;
+    fn fstatvfs(file: c_int, found: *mut FileSystem) -> c_int;
 }
+
+/// What the system answers on a full disk.
+const ENOSPC: i32 = 28;
 
 /// Opens a file by these options, and refuses what is no regular file: a folder, a FIFO, a socket, a device. It waits for
 /// nobody, and opens nothing that it then refuses, unless somebody exchanges the file in that moment.
@@ -54,12 +69,28 @@ fn lock(file: &File, lock: impl Fn(&File) -> std::result::Result<(), TryLockErro
     }
 }
 
+/// Whether the disk may have room for the bytes of a file that have no space yet.
+fn may_have_space(file: &File, bytes: u64) -> Result<bool> {
+    let mut disk = FileSystem::default();
+    // SAFETY: the call writes to this value alone, which is longer than what it writes.
+    if unsafe { fstatvfs(file.as_raw_fd(), &mut disk) } != 0 {
+        return Err(Error::last_os_error());
+    }
+    // The system counts what a file has in units of 512 bytes.
+    let missing = bytes.saturating_sub(file.metadata()?.blocks().saturating_mul(512));
+    Ok(missing <= disk.free_fragments.saturating_mul(disk.fragment_bytes))
+}
+
 /// Takes the space of so many bytes on the disk, and changes none. The disk may be full: that is said here, since a
-/// store into memory cannot say it.
+/// store into memory cannot say it. Where it has too little, none is taken: of a long file with holes the system would
+/// take all that is left, and keep it.
 fn take_space(file: &File, bytes: u64) -> Result<()> {
     // The system takes no empty range.
     if bytes == 0 {
         return Ok(());
+    }
+    if !may_have_space(file, bytes)? {
+        return Err(Error::from_raw_os_error(ENOSPC));
     }
     let bytes = i64::try_from(bytes).map_err(|_| Error::from(ErrorKind::FileTooLarge))?;
     // SAFETY: the call reads and writes no memory of ours.
