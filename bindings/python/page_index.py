@@ -43,8 +43,9 @@ UNMENDED and change nothing; where they are not, there was nothing to mend.
 
 Files and power. A mapped file survives a process that is killed at any instruction. A power cut is
 survived by memory that takes the stores in program order and keeps them. A file on a disk is not such
-memory: the system writes its pages back in any order. To only look at a file, map it with
-mmap.ACCESS_COPY, whose writes never reach the file. Nobody may shorten a file while it is mapped. There is
+memory: the system writes its pages back in any order. To only look at a file, read it into a bytearray, or
+map it with mmap.ACCESS_COPY, whose writes never reach the file (of a mapped file with holes a look may need
+space on the disk, and end the process where there is none). Nobody may shorten a file while it is mapped. There is
 no checksum: NO_STORE and BROKEN tell a word 0 that no index has, and a directory that does not fit
 together. Other damage is not noticed, or looks like a split that was cut off; pages may be lost then.
 

@@ -119,7 +119,7 @@
 //! a disk is not such memory: the system writes its pages back in any order, in the middle of a call too, and after a
 //! power cut later stores may be there and earlier ones not. `msync` between two calls says that all stores until then
 //! are on the disk; it gives no order to the stores in the middle of a call, nor to those since the last `msync`.
-//! Against such cuts keep copies, made between two calls.
+//! Against such cuts keep copies, made between two calls (`page-index copy` makes one).
 //!
 //! There is no checksum. [`Refusal::NoStore`] and [`Refusal::Broken`] tell a word 0 that no index has, and a directory
 //! that does not fit together. Other damage is not noticed, or looks like a split that was cut off, which a mend takes

@@ -32,7 +32,8 @@ pub fn format(out: &mut dyn Write, path: &str, (depth, segments): (u64, u64), fo
     let len = page_index::words_for(depth, segments).map_err(|refused| Failure::refused(path, &[], refused))?;
     let mut words = open_to_format(path, len)?;
     // Whether the file is new is told by its words, once nobody else can write them.
-    if let Some(seen) = seen(&words).filter(|_| !force) {
+    let seen = if force { None } else { seen(&words) };
+    if let Some(seen) = seen {
         let said = "a format empties what is there; --force does it";
         return Err(Failure::Refused(format!("{path}: not new: {seen}; {said}")));
     }

@@ -10,7 +10,7 @@ use std::io::{self, BufRead, Read, Write};
 /// A line of more bytes is no record: two numbers have 41, and this leaves room for blanks and leading zeros.
 const LONGEST: usize = 256;
 
-/// The lines of a text with their numbers, each at most one byte longer than `LONGEST`.
+/// The lines of a text, and how many there were. Of a line that is longer than `LONGEST` only one byte more is read.
 struct Lines<R> {
     text: R,
     number: usize,
@@ -22,7 +22,9 @@ impl<R: BufRead> Lines<R> {
         let mut line = Vec::new();
         self.text.by_ref().take(LONGEST as u64 + 1).read_until(b'\n', &mut line)?;
         self.number += 1;
-        Ok((!line.is_empty()).then_some(line))
+        let some = !line.is_empty();
+        line.pop_if(|last| *last == b'\n');
+        Ok(some.then_some(line))
     }
 }
 
@@ -47,15 +49,16 @@ impl Count {
     /// How a run to the end ends: a refusal counts before a line that is no record.
     fn ended(&self, out: &mut dyn Write, path: &str) -> Ended {
         let refused: usize = self.refused.values().sum();
-        let kinds = self.refused.iter().map(|(number, lines)| format!("refused with {number}: {lines}"));
-        let passed: Vec<String> =
-            kinds.chain((self.no_record > 0).then(|| format!("no record: {}", self.no_record))).collect();
+        let kinds = self.refused.iter().map(|(number, lines)| format!("lines refused with {number}: {lines}"));
+        let passed: Vec<String> = kinds
+            .chain((self.no_record > 0).then(|| format!("lines that are no record: {}", self.no_record)))
+            .collect();
         let pages = counted(self.pages, "page");
         if passed.is_empty() {
             writeln!(out, "done, {pages}")?;
             return Ok(Outcome::Done);
         }
-        let said = format!("{path}: {pages} put; lines {}", passed.join(", "));
+        let said = format!("{path}: {pages} put; {}", passed.join("; "));
         Err(if refused > 0 { Failure::Refused(said) } else { Failure::File(said) })
     }
 }
@@ -71,11 +74,16 @@ pub fn put_lines(out: &mut dyn Write, path: &str, text: impl BufRead, keep_going
     let mut words = open_to_change(path)?;
     // A damaged index, and one that awaits mending, are refused before anything is read.
     list_block(&words, 0, &mut [0; BLOCK_WORDS]).map_err(|refused| Failure::refused(path, &words, refused))?;
-    let (mut lines, mut count, mut progress) =
-        (Lines { text, number: 0 }, Count::default(), Progress::new("pages put"));
-    while let Some(line) = lines.next().map_err(|error| Failure::file("standard input", error))? {
+    let (mut lines, mut count) = (Lines { text, number: 0 }, Count::default());
+    let mut progress = Progress::new("pages put");
+    loop {
+        let next = lines.next().map_err(|error| Failure::file("standard input", error).with(count.said()))?;
+        let Some(line) = next else { return count.ended(out, path) };
         match put_line(&mut words, &line) {
-            Ok(()) => count.pages += 1,
+            Ok(()) => {
+                count.pages += 1;
+                progress.step();
+            }
             Err(stopped) => {
                 let at = format!("{path}, line {} of standard input", lines.number);
                 let passed = keep_going && stopped.passed(&mut count);
@@ -86,9 +94,7 @@ pub fn put_lines(out: &mut dyn Write, path: &str, text: impl BufRead, keep_going
                 failure.tell();
             }
         }
-        progress.step();
     }
-    count.ended(out, path)
 }
 
 /// Why a line was not put.

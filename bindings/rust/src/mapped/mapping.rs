@@ -12,10 +12,9 @@ const MAP_SHARED: c_int = 1;
 const MAP_PRIVATE: c_int = 2;
 const MAP_ANONYMOUS: c_int = 0x20;
 const MAP_NORESERVE: c_int = 0x4000;
-const SEEK_DATA: c_int = 3;
 const SEEK_HOLE: c_int = 4;
-/// What the system answers behind the last data of a file.
-const ENXIO: i32 = 6;
+/// The bytes of a file that are read at once.
+const PART: usize = 1 << 20;
 
 extern "C" {
     fn mmap(at: *mut c_void, bytes: usize, may: c_int, flags: c_int, file: c_int, offset: i64) -> *mut c_void;
@@ -45,8 +44,7 @@ impl Mapping {
     /// Maps a locked file, to be read. One with holes is read into memory of its own, where a hole is 0: in a file
     /// system in memory a hole takes space when a mapping is read, and where there is none the process would be ended.
     pub(super) fn to_look(file: File) -> Result<Mapping> {
-        let length = file.metadata()?.len();
-        if next(&file, 0, SEEK_HOLE)?.is_none_or(|hole| hole >= length) {
+        if !has_hole(&file, file.metadata()?.len()) {
             return Mapping::new(file, PROT_READ, MAP_SHARED);
         }
         let mut mapping = Mapping::new(file, PROT_READ | PROT_WRITE, MAP_PRIVATE | MAP_ANONYMOUS | MAP_NORESERVE)?;
@@ -70,15 +68,19 @@ impl Mapping {
         }
     }
 
-    /// Reads the data of the file, and leaves the holes 0, as the memory is.
+    /// Reads the bytes of the file, holes as 0. Where the data are is not asked: not every file system says it rightly of
+    /// a file that was written just now.
     fn read(&mut self) -> Result<()> {
-        let mut from = 0;
-        while let Some(start) = next(&self.file, from, SEEK_DATA)?.filter(|start| *start < self.bytes as u64) {
-            let end = next(&self.file, start, SEEK_HOLE)?.map_or(self.bytes, |end| self.bytes.min(end as usize));
-            // SAFETY: so many bytes are mapped there, to be written, and nobody else knows of them yet.
-            let bytes = unsafe { std::slice::from_raw_parts_mut(self.at.as_ptr().cast::<u8>(), self.bytes) };
-            self.file.read_exact_at(&mut bytes[start as usize..end], start)?;
-            from = end as u64;
+        // SAFETY: so many bytes are mapped there, to be written, and nobody else knows of them yet.
+        let bytes = unsafe { std::slice::from_raw_parts_mut(self.at.as_ptr().cast::<u8>(), self.bytes) };
+        let mut read = vec![0; PART];
+        for (number, part) in bytes.chunks_mut(PART).enumerate() {
+            let read = &mut read[..part.len()];
+            self.file.read_exact_at(read, (number * PART) as u64)?;
+            // Memory that is not written is 0, and takes none.
+            if read.iter().any(|byte| *byte != 0) {
+                part.copy_from_slice(read);
+            }
         }
         Ok(())
     }
@@ -109,15 +111,10 @@ impl Drop for Mapping {
     }
 }
 
-/// Where the next data of a file, or the next hole, begins; `None` where there is none behind.
-fn next(file: &File, from: u64, what: c_int) -> Result<Option<u64>> {
-    let from = i64::try_from(from).map_err(|_| Error::from(ErrorKind::FileTooLarge))?;
+/// Whether a file has a hole, as far as the file system says it.
+fn has_hole(file: &File, length: u64) -> bool {
     // SAFETY: the call reads and writes no memory of ours.
-    match u64::try_from(unsafe { lseek(file.as_raw_fd(), from, what) }) {
-        Ok(found) => Ok(Some(found)),
-        Err(_) => match Error::last_os_error() {
-            error if error.raw_os_error() == Some(ENXIO) => Ok(None),
-            error => Err(error),
-        },
-    }
+    let hole = unsafe { lseek(file.as_raw_fd(), 0, SEEK_HOLE) };
+    // Where there is none, the end is answered; where nothing can be said, -1.
+    u64::try_from(hole).is_ok_and(|hole| hole < length)
 }
