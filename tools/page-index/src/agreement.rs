@@ -4,6 +4,7 @@ use crate::find::Found;
 use crate::findings::Findings;
 use crate::mending::Mending;
 use crate::reading::{Shape, State};
+use crate::restored::{restored, Restored};
 use page_index::{format, get, list, mend, merge, put, remove, words_for, Refusal, ALL};
 use std::collections::BTreeSet;
 use std::hash::{BuildHasher, BuildHasherDefault, DefaultHasher};
@@ -45,6 +46,7 @@ struct Seen {
     stray: usize,
     changed: usize,
     out_of_range: usize,
+    restored: usize,
 }
 
 /// An array that a run leaves whose last call was cut off.
@@ -151,6 +153,22 @@ fn leading_to(shape: &Shape, index: usize) -> u64 {
     (0..shape.depth).map(bit).sum::<u64>() + 1
 }
 
+/// What the tool says of a run's array whose word 0 has become 0: the word that was there, and as many records. A directory
+/// that is one block of segment 0 has only zeros, as one that was never stored, and an older one may be taken for it.
+fn check_restored(words: &[u64], seen: &mut Seen) {
+    let shape = Shape::read(words).unwrap();
+    let found = live(words).unwrap().len() / 2;
+    let entries = &words[shape.entry_word(0)..shape.entry_word(shape.entries())];
+    if found == 0 || shape.depth > 0 && entries.iter().all(|entry| *entry == 0) {
+        return;
+    }
+    // A file of ours has just these words.
+    let mut lost = words[..shape.words()].to_vec();
+    lost[0] = 0;
+    assert_eq!(restored(&lost), Some(Restored { shape, live: found }));
+    seen.restored += 1;
+}
+
 /// What the tool says of the array, as the listing would.
 fn check_listing(words: &[u64], seen: &mut Seen) {
     let shown = live(words);
@@ -215,6 +233,7 @@ fn the_tool_reads_what_the_library_reads() {
             let shape = Shape::read(&words).unwrap();
             let findings = Findings::of(&words, &shape, &shape.blocks(&words).unwrap());
             assert!(!findings.is_damage(), "a run leaves no damage, and here {findings}");
+            check_restored(&words, &mut seen);
         }
         check_listing(&words, &mut seen);
         for _ in 0..40 {
@@ -222,9 +241,9 @@ fn the_tool_reads_what_the_library_reads() {
         }
     }
     println!("{seen:?}");
-    let Seen { whole, unmended, broken, no_store, found, absent, get_broken, stale, stray, changed, out_of_range } =
-        seen;
-    for often in [whole, unmended, broken, no_store, found, absent, get_broken, stale, stray, changed, out_of_range] {
+    let Seen { whole, unmended, broken, no_store, found, absent, get_broken, stale, stray, .. } = seen;
+    let arrays = [whole, unmended, broken, no_store, stray, seen.changed, seen.out_of_range, seen.restored];
+    for often in arrays.into_iter().chain([found, absent, get_broken, stale]) {
         assert!(often >= 100, "each kind of array and answer must come");
     }
 }

@@ -4,9 +4,10 @@ use crate::reading::{Block, Shape, State, SEGMENT_WORDS};
 use std::fmt;
 
 /// What a file would be with the word 0 of this shape: how many records lookups would find.
+#[derive(Debug, PartialEq, Eq)]
 pub struct Restored {
-    shape: Shape,
-    live: usize,
+    pub shape: Shape,
+    pub live: usize,
 }
 
 /// The shapes of depth 0 that so many words have room for, each with as many segments as go into them; those alone that
@@ -39,17 +40,21 @@ fn found(words: &[u64], shape: &Shape, blocks: &[Block]) -> usize {
     blocks.iter().map(of).sum()
 }
 
-/// Of all words 0 that a file of this length can have, the one with which the most records would be found. None where no
-/// record would be with any.
+/// Of all words 0 that a file of this length can have, the one that was most likely there, or none where no record would be
+/// found with any. D is that with which the most records are found at some depth. G is the deepest at which any is: in a file
+/// that was formatted once no deeper directory was ever stored whole, while an older one may lead to records that were
+/// removed since, where a split has left them.
 pub fn restored(words: &[u64]) -> Option<Restored> {
     let of_every_depth = |shape: Shape| (0..=shape.max_depth).map(move |depth| Shape { depth, ..shape });
-    shapes(words.len())
+    let all: Vec<Restored> = shapes(words.len())
         .into_iter()
         .flat_map(of_every_depth)
         .filter(|shape| has_directory(words, shape))
         .filter_map(|shape| Some(Restored { shape, live: found(words, &shape, &shape.blocks(words).ok()?) }))
-        .max_by_key(|restored| restored.live)
         .filter(|restored| restored.live > 0)
+        .collect();
+    let max_depth = all.iter().max_by_key(|restored| restored.live)?.shape.max_depth;
+    all.into_iter().filter(|restored| restored.shape.max_depth == max_depth).max_by_key(|restored| restored.shape.depth)
 }
 
 impl fmt::Display for Restored {
