@@ -78,7 +78,8 @@ fn may_have_space(file: &File, bytes: u64) -> Result<bool> {
     }
     // The system counts what a file has in units of 512 bytes.
     let missing = bytes.saturating_sub(file.metadata()?.blocks().saturating_mul(512));
-    Ok(missing <= disk.free_fragments.saturating_mul(disk.fragment_bytes))
+    // A file system that counts nothing says that it has no fragments at all.
+    Ok(disk.fragments == 0 || missing <= disk.free_fragments.saturating_mul(disk.fragment_bytes))
 }
 
 /// Takes the space of so many bytes on the disk, and changes none. The disk may be full: that is said here, since a
