@@ -10,7 +10,8 @@ store made and nothing changed.
 How many jobs. In 4 MiB (D = 12, S = 4,032), with the numbers 0 to n - 1 in every month from January 2026
 on, in rising order: the jobs until a set is refused for the first time, the number of the refusal, and when
 that is. Then for how many whole years an array is enough, with 2026, 2027, 2028 or 2029 as the first, and
-with the jobs of each year in rising or in random order. bench/board.cpp works it out.
+with the jobs of each year in rising or in random order; more than 64 were not tried. bench/board.cpp works it
+out.
 
           n       jobs  code  refused   years
          50    115,229     5  Jan 2218      64
