@@ -124,6 +124,15 @@ def step_table(counts):
     return "\n".join(rows)
 
 
+def job_table(path):
+    """The jobs that a board takes, as bench/board.cpp says them."""
+    rows = ["| n | Jobs until the first refusal | Its code | It comes in | Years for an array |", "|---|---|---|---|---|"]
+    for line in path.read_text().splitlines():
+        numbers, jobs, code, month, year, years = line.split()
+        rows.append(f"| {int(numbers):,} | {int(jobs):,} | {code} | {month} {year} | {years} |")
+    return "\n".join(rows)
+
+
 def instruction_table(path):
     said = {"get": "get, hit", "overwrite": "overwrite", "new": "put of a new page", "remove": "remove"}
     calls = collections.defaultdict(dict)
@@ -185,7 +194,7 @@ def main(folder, repetitions):
         "@command@": "bench/run", "@repetitions@": str(repetitions), "@processors@": str(machine["num_cpus"]),
         "@mhz@": str(machine["mhz_per_cpu"]), "@ratios@": ratio_table(times), "@times@": time_table(times), "@counts@": count_table(counts),
         "@instructions@": instruction_table(folder / "instructions.txt"), "@desk@": desk_table(root), "@worst@": counts["worst", "stores"], "@memory@": memory_table(counts),
-        "@print@": printed, "@most_gets@": str(MOST_GETS), "@steps@": step_table(steps),
+        "@jobs@": job_table(folder / "board.txt"), "@print@": printed, "@most_gets@": str(MOST_GETS), "@steps@": step_table(steps),
         "@least@": steps["cabinet/random", "least"], "@most@": steps["cabinet/random", "most"],
     }.items():
         text = text.replace(mark, value)

@@ -4,6 +4,7 @@
  * the page is as it was told, also if the process is killed. What is refused is said on standard error.
  *
  *     mapped_example FILE
+ *     mapped_example --version
  */
 #define _DEFAULT_SOURCE
 #include "page_index.h"
@@ -56,19 +57,33 @@ static void stop(const char *what, const char *why)
     exit(1);
 }
 
-/* Maps the file, which is made if it is not there. It stays open, and with it the lock held. */
-static uint64_t *map_file(const char *path)
+/* Opens the file, which is made if it is not there, for this process alone, and answers its length. A FIFO is not
+   waited for, and what is no regular file is left alone. */
+static int open_locked(const char *path, off_t *length)
 {
     struct stat file;
-    int fd = open(path, O_RDWR | O_CREAT, 0666);
-    if (fd < 0) stop(path, strerror(errno));
+    int fd = open(path, O_RDWR | O_CREAT | O_NONBLOCK, 0666);
+    if (fd < 0 || fstat(fd, &file) != 0) stop(path, strerror(errno));
+    if (!S_ISREG(file.st_mode)) stop(path, "no regular file");
     if (flock(fd, LOCK_EX | LOCK_NB) != 0) stop(path, "another process has locked it");
+    /* Who had the lock before may have given the file its length, or removed it. */
     if (fstat(fd, &file) != 0) stop(path, strerror(errno));
+    if (file.st_nlink == 0) stop(path, "another process has removed it just now");
+    *length = file.st_size;
+    return fd;
+}
+
+/* Maps the file. It stays open, and with it the lock held. */
+static uint64_t *map_file(const char *path)
+{
+    off_t length;
+    int fd = open_locked(path, &length);
     /* A file made just now has no bytes, nor has one whose maker was killed here. The new bytes are 0. */
-    if (file.st_size == 0 && ftruncate(fd, BYTES) != 0) stop(path, strerror(errno));
-    if (file.st_size != 0 && file.st_size != BYTES) stop(path, "not of the length of this index");
-    /* The disk may be full: that is said here, since a store into memory cannot say it. */
+    if (length == 0 && ftruncate(fd, BYTES) != 0) stop(path, strerror(errno));
+    if (length != 0 && length != BYTES) stop(path, "not of the length of this index");
+    /* The disk may be full: that is said here, since a store into memory cannot say it. A new file is new again. */
     int full = posix_fallocate(fd, 0, BYTES);
+    if (full != 0 && length == 0 && ftruncate(fd, 0) != 0) stop(path, strerror(errno));
     if (full != 0) stop(path, strerror(full));
     void *at = mmap(NULL, BYTES, PROT_READ | PROT_WRITE, MAP_SHARED, fd, 0);
     if (at == MAP_FAILED) stop(path, strerror(errno));
@@ -83,10 +98,18 @@ static void mend(uint64_t *words)
     if (reply.stores > 0) fprintf(stderr, "mended: %" PRIu32 " stores\n", reply.stores);
 }
 
-/* The start: memory whose word 0 is 0 is new, and formatted; all other is mended. */
+/* Whether the file is new: all its words are 0, and not word 0 alone, which damage may have made 0. */
+static int is_new(const uint64_t *words)
+{
+    size_t i = 0;
+    while (i < LEN && words[i] == 0) i++;
+    return i == LEN;
+}
+
+/* The start: a new file is formatted, every other one is mended. */
 static void start(uint64_t *words)
 {
-    if (words[0] != 0) {
+    if (!is_new(words)) {
         mend(words);
         return;
     }
@@ -150,6 +173,21 @@ static const char *read_number(const char *text, uint64_t *number)
     return errno == 0 ? end + strspn(end, " \t\r\n") : NULL;
 }
 
+/* Reads a line, without its end, and answers whether there was one. A line that does not fit is no call, nor is one with
+   a zero byte: it becomes a question mark. */
+static int read_line(char *line, size_t room)
+{
+    size_t length = 0;
+    int byte, fits = 1;
+    while ((byte = getchar()) != EOF && byte != '\n') {
+        fits = fits && byte != 0 && length < room - 1;
+        if (fits) line[length++] = (char)byte;
+    }
+    line[length] = '\0';
+    if (!fits) strcpy(line, "?");
+    return byte != EOF || length > 0 || !fits;
+}
+
 /* Makes the call of a line, and says how it ended. */
 static void run_line(uint64_t *words, unsigned long number, const char *line)
 {
@@ -183,13 +221,12 @@ static uint64_t count_pages(const uint64_t *words)
 
 int main(int argc, char **argv)
 {
-    char *line = NULL;
-    size_t room = 0;
+    char line[256];
     if (argc != 2) stop("usage", "mapped_example FILE");
+    if (strcmp(argv[1], "--version") == 0) return puts("mapped_example " PAGE_INDEX_VERSION) < 0;
     uint64_t *words = map_file(argv[1]);
     start(words);
-    for (unsigned long number = 1; getline(&line, &room, stdin) >= 0; number++) run_line(words, number, line);
-    free(line);
+    for (unsigned long number = 1; read_line(line, sizeof line); number++) run_line(words, number, line);
     printf("%" PRIu64 " pages\n", count_pages(words));
     return 0;
 }

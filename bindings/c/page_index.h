@@ -66,22 +66,27 @@
  * AT START
  *
  *   1. Pass the whole memory, with the same `len` at each start; do not take it from word 0.
- *   2. If the memory is new, format it. It is new if word 0 is 0, as it is in a file made just now. A
- *      format stores 0 there first, and last the mark by which an index is known, so that one which was
- *      cut off is begun anew. (Memory that is no file may hold anything when it is new: who installs it
- *      formats it, once, or stores 0 to word 0.)
+ *   2. If it is new, format it. A FILE is new if all its words are 0: they are in a file made just now, and
+ *      stay so to the last store of its first format, so that one which was cut off is begun anew. Do not
+ *      ask for word 0 alone: damage can make it 0, and every page would be gone.
  *   3. Else mend it, with PAGE_INDEX_ALL. At PAGE_INDEX_DONE it is ready. Its shape is that of word 0 (D
  *      in bits 8 to 15, S in bits 16 to 31), which nobody compares with yours. With an allowance of 0 a
  *      mend makes no store, and answers 7 where there is something to mend.
  *   4. At any other code stop, and have somebody look at it (tools/page-index). Do not format.
- *      PAGE_INDEX_NO_STORE does not mean that nothing is there: it is also the answer to a damaged word 0
- *      and to a `len` that is too short. 'Mend; if that says 1, format' has wiped 1,000 pages, when the
- *      length was passed 1,024 words short and S computed from it. Format empties an index, whatever it
- *      held.
+ *      PAGE_INDEX_NO_STORE does not mean that nothing is there: it is also the answer to a damaged word 0,
+ *      one that became 0 too, and to a `len` that is too short. 'Mend; if that says 1, format' has wiped
+ *      1,000 pages, when the length was passed 1,024 words short and S computed from it. Format empties an
+ *      index, whatever it held.
  *
- *     reply = words[0] == 0 ? page_index_format(words, len, 12, 4032, PAGE_INDEX_ALL)
- *                           : page_index_mend(words, len, PAGE_INDEX_ALL);
+ *     size_t i = 0;
+ *     while (i < len && words[i] == 0) i++;
+ *     reply = i == len ? page_index_format(words, len, 12, 4032, PAGE_INDEX_ALL)
+ *                      : page_index_mend(words, len, PAGE_INDEX_ALL);
  *     if (reply.code != PAGE_INDEX_DONE) stop();
+ *
+ * Memory that is no file may hold anything when it is new: who installs it formats it, once. A format
+ * stores 0 to word 0 first, and last the mark by which an index is known; so if word 0 is 0 there, and the
+ * memory is not damaged, a format was cut off, and is begun anew.
  *
  * From then on a page is kept once its put has answered PAGE_INDEX_DONE. With PAGE_INDEX_ALL, and if
  * nobody else writes the words, put answers 0, 2, 5 or 6, get and remove 0, 2 or 255, merge 0, 2, 14 or
@@ -92,14 +97,17 @@
  *
  * An index may stand in a file that is mapped. What was stored is then in the file also if the process is
  * killed at any instruction; nothing has to be done at the end, and no page that was acknowledged is lost.
- *   1. open(path, O_RDWR | O_CREAT, 0666), and flock(fd, LOCK_EX | LOCK_NB): one process at a time. Where
+ *   1. open(path, O_RDWR | O_CREAT | O_NONBLOCK, 0666), so that a FIFO is not waited for; fstat, and stop
+ *      where it is no regular file (S_ISREG). flock(fd, LOCK_EX | LOCK_NB): one process at a time. Where
  *      another has the lock: stop. It is held as long as the descriptor is open. tools/page-index takes it
  *      too, also to look.
- *   2. fstat. A file of no bytes is new, or its maker was killed here: ftruncate gives it 8 * len bytes,
- *      and they are 0. A file of any other length but 8 * len bytes: stop.
+ *   2. fstat again. Where st_nlink is 0 another process has removed or replaced the file: stop. A file of
+ *      no bytes is new, or its maker was killed here: ftruncate gives it 8 * len bytes, and they are 0. A
+ *      file of any other length but 8 * len bytes: stop.
  *   3. posix_fallocate, at each start: it takes the space on the disk, and changes no byte (its error is
  *      what it returns, not errno). A store into memory cannot say that the disk is full; it would end the
- *      process (SIGBUS), as it does where somebody shortens the file while it is mapped.
+ *      process (SIGBUS), as it does where somebody shortens the file while it is mapped. Where it fails for
+ *      a file that had no bytes, ftruncate gives it none again.
  *   4. mmap(PROT_READ | PROT_WRITE, MAP_SHARED): a mapping is aligned. Then start as above.
  * With -std=c99 these functions want _DEFAULT_SOURCE defined before the first #include.
  *
@@ -114,8 +122,8 @@
  * being written before it is called, so it gives no order to the stores in the middle of a call, nor to
  * those of the calls since the last msync. The same holds of persistent memory behind a processor cache
  * whose lines are lost with the power. Against such cuts keep copies: between two calls write the words to
- * another file, fsync it, rename it over the last copy, fsync the folder. A copy needs no mend before it
- * is made.
+ * another file, fsync it, rename it over the last copy, fsync the folder; tools/page-index copy does that
+ * while no program has the file. A copy needs no mend before it is made.
  *
  * POWER CUTS
  *
@@ -144,12 +152,8 @@
  * may overwrite them. Other changes of an entry look like a call that was cut off: put, remove, merge and
  * the lists answer 4. If it is the first entry of a block, the mend writes it over the block, and pages are
  * absent that a get still found; if it is another one, the mend puts it right. Where memory can be damaged
- * keep copies, or a sum of the listing, and copy the words before a mend. tools/page-index stat tells some
+ * keep copies, or a sum of the listing, and copy the words before a mend. tools/page-index check tells some
  * damage of these kinds, and its mend is not made where a lookup would change.
- *
- * In a file that is formatted for the first time all words stay 0 to the last store of the format. So a
- * program that formats new files alone can ask for all words to be 0, and not word 0 alone, before it
- * formats: damage that makes word 0 alone 0 costs no page then.
  *
  * ALLOWANCES
  *
@@ -193,7 +197,10 @@
 extern "C" {
 #endif
 
-/* The words that an index of this shape takes. */
+/* The version of this header; the Rust crate, the Python module and tools/page-index say the same. */
+#define PAGE_INDEX_VERSION "0.1.0"
+
+/* The words that an index of this shape takes, where format does not refuse it with 8. */
 #define PAGE_INDEX_WORDS(depth, segments) (((size_t)2 << (depth)) + 128 * (size_t)(segments))
 
 /* An allowance that cuts no call off. */

@@ -3,10 +3,12 @@
 on the page is as it was told, also if the process is killed. What is refused is said on standard error.
 
     python3 bindings/python/example.py FILE
+    python3 bindings/python/example.py --version
 """
 import fcntl
 import mmap
 import os
+import stat
 import sys
 
 import page_index
@@ -14,24 +16,38 @@ from page_index import Refusal, Refused
 
 DEPTH, SEGMENTS = 12, 4032
 BYTES = 8 * page_index.words_for(DEPTH, SEGMENTS)
+LONGEST = 255
 
 
 def open_locked(path):
-    """Opens the file, or makes it, for this process alone. Stops where it has another length than ours."""
-    file = os.fdopen(os.open(path, os.O_RDWR | os.O_CREAT, 0o666), "r+b")
+    """Opens the file, or makes it, for this process alone. A FIFO is not waited for, and what is no regular file is
+    left alone."""
+    file = os.fdopen(os.open(path, os.O_RDWR | os.O_CREAT | os.O_NONBLOCK, 0o666), "r+b", buffering=0)
+    if not stat.S_ISREG(os.fstat(file.fileno()).st_mode):
+        sys.exit(f"{path}: no regular file")
     try:
         fcntl.flock(file, fcntl.LOCK_EX | fcntl.LOCK_NB)
     except BlockingIOError:
         sys.exit(f"{path}: another process has locked it")
-    length = os.fstat(file.fileno()).st_size
-    # A file made just now has no bytes, nor has one whose maker was killed here. The new bytes are 0.
-    if length == 0:
-        file.truncate(BYTES)
-    elif length != BYTES:
-        sys.exit(f"{path}: it has {length} bytes, and an index of this shape {BYTES}")
-    # The disk may be full: that is said here, since a store into memory cannot say it.
-    os.posix_fallocate(file.fileno(), 0, BYTES)
+    if os.fstat(file.fileno()).st_nlink == 0:
+        sys.exit(f"{path}: another process has removed it just now")
     return file
+
+
+def take_space(path, file):
+    """Gives a file of no bytes its length, and takes the space of every file. Stops where it has another length than
+    ours, and where the disk is full: that is said here, since a store into memory cannot say it."""
+    length = os.fstat(file.fileno()).st_size
+    if length not in (0, BYTES):
+        sys.exit(f"{path}: it has {length} bytes, and an index of this shape {BYTES}")
+    # A file made just now has no bytes, nor has one whose maker was killed here. The new bytes are 0.
+    file.truncate(BYTES)
+    try:
+        os.posix_fallocate(file.fileno(), 0, BYTES)
+    except OSError:
+        # A new file is new again.
+        file.truncate(length)
+        raise
 
 
 def say(text):
@@ -39,8 +55,8 @@ def say(text):
 
 
 def start(words):
-    """Formats new memory, whose word 0 is 0, and mends all other. What the mend refuses is not formatted."""
-    if words[:8] == bytes(8):
+    """Formats a new file, whose words are all 0, and mends every other one. What the mend refuses is not formatted."""
+    if page_index.is_new(words):
         page_index.format(words, DEPTH, SEGMENTS)
         say("formatted")
     else:
@@ -103,6 +119,16 @@ def call_of(line):
     return (*numbers, None)[:2]
 
 
+def lines_of(text):
+    """The lines of a text. Of one that is longer than every call the rest is passed over: it may have no end."""
+    while line := text.readline(LONGEST):
+        if len(line) == LONGEST and not line.endswith(b"\n"):
+            line, rest = b"?", line
+            while rest and not rest.endswith(b"\n"):
+                rest = text.readline(LONGEST)
+        yield line
+
+
 def run_line(words, number, line):
     """Makes the call of a line, and says how it ended. A damaged index ends the program."""
     call = call_of(line)
@@ -121,16 +147,21 @@ def run_line(words, number, line):
 
 
 def main(path):
-    with open_locked(path) as file, mmap.mmap(file.fileno(), BYTES) as words:
-        start(words)
-        for number, line in enumerate(sys.stdin.buffer, 1):
-            run_line(words, number, line)
-        print(sum(len(block) for block in page_index.blocks(words)), "pages")
+    with open_locked(path) as file:
+        take_space(path, file)
+        with mmap.mmap(file.fileno(), BYTES) as words:
+            start(words)
+            for number, line in enumerate(lines_of(sys.stdin.buffer), 1):
+                run_line(words, number, line)
+            print(sum(len(block) for block in page_index.blocks(words)), "pages")
 
 
 if __name__ == "__main__":
     if len(sys.argv) != 2:
         sys.exit("usage: example.py FILE")
+    if sys.argv[1] == "--version":
+        print("example.py", page_index.__version__)
+        sys.exit()
     try:
         main(sys.argv[1])
     except (Refused, OSError) as error:

@@ -27,10 +27,12 @@ key. Where it goes is taken from the low 4 + D bits of its folded key, key ^ key
 count. So number pages so that the low bits change: running numbers are good. page_index.h says how many
 pages fit, and what to do about TOO_DEEP and NO_SEGMENT.
 
-At start. Format only memory that is new: a file made just now, or word 0 is 0 (a format stores the mark
-last, so that one which was cut off is begun anew). Mend all other memory. Where the mend is refused, stop
-and do not format: NO_STORE also means a damaged word 0 or too short a length, and format empties an
-index. Pass the whole memory, with the same length at each start.
+At start. Format only what is new: in a file, where all words are 0 (is_new). They are in a file made just
+now, and stay so to the last store of its first format. Mend all else. Where the mend is refused, stop and
+do not format: NO_STORE also means a damaged word 0, one that became 0 too, or too short a length, and
+format empties an index. Pass the whole memory, with the same length at each start. (Memory that is no file
+may hold anything when it is new: who installs it formats it, once. If its word 0 is 0, a format was cut
+off.)
 
 Power cuts. A call makes its stores one word at a time in a fixed order, so that a power cut leaves the
 array as an allowance of so many stores would. After a put, a remove, a merge or a mend that was cut off,
@@ -41,8 +43,9 @@ UNMENDED and change nothing; where they are not, there was nothing to mend.
 
 Files and power. A mapped file survives a process that is killed at any instruction. A power cut is
 survived by memory that takes the stores in program order and keeps them. A file on a disk is not such
-memory: the system writes its pages back in any order. To only look at a file, map it with
-mmap.ACCESS_COPY, whose writes never reach the file. Nobody may shorten a file while it is mapped. There is
+memory: the system writes its pages back in any order. To only look at a file, read it into a bytearray, or
+map it with mmap.ACCESS_COPY, whose writes never reach the file (of a mapped file with holes a look may need
+space on the disk, and end the process where there is none). Nobody may shorten a file while it is mapped. There is
 no checksum: NO_STORE and BROKEN tell a word 0 that no index has, and a directory that does not fit
 together. Other damage is not noticed, or looks like a split that was cut off; pages may be lost then.
 
@@ -100,6 +103,9 @@ import ctypes
 import enum
 import operator
 import os
+
+# The version of this module; the header, the Rust crate and tools/page-index say the same.
+__version__ = "0.1.0"
 
 # An allowance that cuts no call off.
 ALL = 2**32 - 1
@@ -265,6 +271,15 @@ def words_for(depth, segments):
     if not (2 <= depth <= 12 and 1 <= segments <= 2**depth):
         raise Refused(Refusal.BAD_SHAPE, 0)
     return 2 ** (depth + 1) + _SEGMENT_WORDS * segments
+
+
+def is_new(words):
+    """Whether all words are 0, as they are in a file made just now. Such a file is formatted, every other one
+    mended. Bytes behind the last whole word do not count."""
+    with memoryview(words) as view, view.cast("B") as bytes_of_words:
+        length = bytes_of_words.nbytes // 8 * 8
+        with bytes_of_words[:length] as whole:
+            return whole == bytes(length)
 
 
 def format(words, depth, segments, allowance=ALL):

@@ -5,6 +5,7 @@
 import contextlib
 import ctypes
 import doctest
+import io
 import mmap
 import os
 import pathlib
@@ -17,6 +18,7 @@ import unittest
 from array import array
 from unittest import mock
 
+import example
 import month_board
 import page_index
 from month_board import Job
@@ -628,6 +630,36 @@ class Start(Folder):
             self.assertEqual(refusal(page_index.format, words, 2, 2, allowance), Refusal.CUT_OFF)
             self.assertEqual(words[0], 0)
             self.assertEqual(refusal(page_index.mend, words), Refusal.NO_STORE)
+
+    def test_words_that_are_all_0_are_new_and_no_others(self):
+        words = new_index(2, 2)
+        self.assertFalse(page_index.is_new(words))
+        page_index.put(words, 7, 70)
+        words[0] = 0
+        self.assertFalse(page_index.is_new(words))
+        for length in (0, 1, 8, 4096, 4099):
+            self.assertTrue(page_index.is_new(bytearray(length)))
+        self.assertTrue(page_index.is_new(bytearray(8) + b"1234567"), "bytes behind the last word are not lent")
+        for word in (0, 1, 511):
+            words = array("Q", bytes(4096))
+            words[word] = 1
+            self.assertFalse(page_index.is_new(words))
+            with self.mapped(4096, name=f"word {word}") as mapped:
+                self.assertTrue(page_index.is_new(mapped))
+                mapped[8 * word + 7] = 1
+                self.assertFalse(page_index.is_new(mapped))
+
+    def test_a_start_formats_new_words_alone(self):
+        words = bytearray(example.BYTES)
+        with contextlib.redirect_stderr(io.StringIO()):
+            example.start(words)
+            page_index.put(words, 7, 70)
+            example.start(words)
+            self.assertEqual(page_index.get(words, 7), 70)
+            words[:8] = bytes(8)
+            before = bytes(words)
+            self.assertEqual(refusal(example.start, words), Refusal.NO_STORE)
+            self.assertEqual(words, before)
 
 
 if __name__ == "__main__":

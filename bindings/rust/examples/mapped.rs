@@ -3,19 +3,23 @@
 //! printed when that is done. What is refused is said on standard error.
 //!
 //!     mapped FILE
+//!     mapped --version
 use page_index::mapped::MappedFileMut;
-use page_index::{blocks, format, mend, merge, put, remove, words_for, Refusal, Refused, ALL};
+use page_index::{blocks, format, is_new, mend, merge, put, remove, words_for, Refusal, Refused, ALL, VERSION};
 use std::error::Error;
-use std::io::{stdin, stdout, Write};
+use std::io::{self, stdin, stdout, BufRead, Read, Write};
 use std::process::ExitCode;
 
-const DEPTH: u32 = 12;
-const SEGMENTS: usize = 4032;
+const DEPTH: u64 = 12;
+const SEGMENTS: u64 = 4032;
+/// A line of more bytes is no call.
+const LONGEST: usize = 255;
 
-/// The start: memory whose word 0 is 0 is new, and formatted; all other is mended, and a refusal ends the program.
+/// The start: a file whose words are all 0 is new, and formatted; every other one is mended, and a refusal ends the
+/// program.
 fn start(words: &mut [u64]) -> Result<(), Refused> {
-    if words[0] == 0 {
-        format(words, DEPTH.into(), SEGMENTS as u64, ALL)?;
+    if is_new(words) {
+        format(words, DEPTH, SEGMENTS, ALL)?;
         eprintln!("formatted");
     } else {
         eprintln!("mended: {} stores", mend(words, ALL)?);
@@ -80,6 +84,18 @@ fn call_of(line: &str) -> Option<(u64, Option<u64>)> {
     }
 }
 
+/// The next line, or `None` behind the last. Of one that is too long for a call the rest is passed over: it may have no
+/// end.
+fn next_line(text: &mut impl BufRead) -> io::Result<Option<String>> {
+    let mut line = Vec::new();
+    text.take(LONGEST as u64).read_until(b'\n', &mut line)?;
+    if line.len() == LONGEST && !line.ends_with(b"\n") {
+        text.skip_until(b'\n')?;
+        line = b"?".to_vec();
+    }
+    Ok((!line.is_empty()).then(|| String::from_utf8_lossy(&line).into_owned()))
+}
+
 /// Makes the call of a line, and says how it ended. A damaged index ends the program.
 fn run_line(words: &mut [u64], number: usize, line: &str) -> Result<(), Refused> {
     let Some((key, value)) = call_of(line) else {
@@ -97,10 +113,11 @@ fn run_line(words: &mut [u64], number: usize, line: &str) -> Result<(), Refused>
 
 fn run(path: &str) -> Result<(), Box<dyn Error>> {
     // SAFETY: the lock keeps away every program that locks the file too, as the examples in C and Python do.
-    let mut words = unsafe { MappedFileMut::open_or_create(path, words_for(DEPTH, SEGMENTS)) }?;
+    let mut words = unsafe { MappedFileMut::open_or_create(path, words_for(DEPTH, SEGMENTS)?) }?;
     start(&mut words)?;
-    for (line, number) in stdin().lines().zip(1..) {
-        run_line(&mut words, number, &line?)?;
+    for number in 1.. {
+        let Some(line) = next_line(&mut stdin().lock())? else { break };
+        run_line(&mut words, number, &line)?;
         // From here on the caller may count on it.
         stdout().flush()?;
     }
@@ -117,6 +134,10 @@ fn main() -> ExitCode {
         eprintln!("usage: mapped FILE");
         return ExitCode::FAILURE;
     };
+    if path == "--version" {
+        println!("mapped {VERSION}");
+        return ExitCode::SUCCESS;
+    }
     match run(&path) {
         Ok(()) => ExitCode::SUCCESS,
         Err(error) => {

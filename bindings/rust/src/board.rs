@@ -36,6 +36,32 @@
 //! assert_eq!(refused(Job { month: 13, number: 4096, ..job }), Refusal::BadMonth);
 //! assert_eq!(refused(Job { number: 4096, ..job }), Refusal::BadNumber);
 //! ```
+//!
+//! # How many jobs a board takes
+//!
+//! In 4 MiB (D = 12, S = 4,032), with the numbers 0 to n − 1 in every month from January 2026 on, in rising order: the
+//! jobs until a set is refused for the first time. Then for how many whole years an array is enough, with 2026, 2027, 2028
+//! or 2029 as the first, and with the jobs of each year in rising or in random order; more than 64 were not tried.
+//! `bench/board.cpp` works it out.
+//!
+//! | n | Jobs until the first refusal | Its code | It comes in | Years for an array |
+//! |---|---|---|---|---|
+//! | 50 | 115,229 | 5 | Jan 2218 | 64 |
+//! | 100 | 104,515 | 5 | Feb 2113 | 64 |
+//! | 128 | 196,736 | 5 | Feb 2154 | 64 |
+//! | 200 | 154,000 | 5 | Mar 2090 | 3 |
+//! | 256 | 197,120 | 5 | Mar 2090 | 3 |
+//! | 300 | 14,714 | 5 | Feb 2030 | 3 |
+//! | 500 | 18,520 | 5 | Feb 2029 | 3 |
+//! | 1,000 | 40,541 | 5 | May 2029 | 3 |
+//! | 2,000 | 96,000 | 5 | Jan 2030 | 3 |
+//! | 4,096 | 196,608 | 5 | Jan 2030 | 3 |
+//!
+//! Where a job goes is taken from 16 bits of its folded key, and there are four slots for each value of these bits. Folding
+//! lays bit 0 of the year over bit 6 of the number, and so on, bit 5 over bit 11. With up to 64 numbers each of 64 years
+//! has places of its own; with up to 128 two years share their places, with up to 256 four, and with more than 256 eight
+//! or more. Four years fill four slots, and only jobs that come in rising order find each its own. So take another array
+//! every three years; or every 64, where no month has other numbers than 0 to 127.
 use crate::{answered, stores, Refused, Reply};
 
 /// A job: its year (1 to 9999), its month (1 to 12) and its number (0 to 4095).

@@ -78,25 +78,28 @@
 //!
 //! # At start
 //!
-//! Format only memory that is new: a file made just now, or word 0 is 0 (a format stores the mark last, so that one
-//! which was cut off is begun anew). Mend all other memory, and stop where that is refused.
-//! [`Refusal::NoStore`] also means a damaged word 0, or that the slice is too short: a program that formats there
-//! wipes a full index. Pass the whole memory, with the same length at each start, and compute nothing from word 0.
+//! Format only what is new: in a file, where all words are 0 ([`is_new`]). They are in a file made just now, and stay so
+//! to the last store of its first format. Mend all else, and stop where that is refused. [`Refusal::NoStore`] also means
+//! a damaged word 0, one that became 0 too, or that the slice is too short: a program that formats there wipes a full
+//! index. Pass the whole memory, with the same length at each start, and compute nothing from word 0. (Memory that is no
+//! file may hold anything when it is new: who installs it formats it, once. If its word 0 is 0, a format was cut off.)
 //!
 //! ```
-//! use page_index::{format, get, mend, put, words_for, Refusal, Refused, ALL};
+//! use page_index::{format, get, is_new, mend, put, words_for, Refusal, Refused, ALL};
 //!
 //! fn start(words: &mut [u64]) -> Result<u32, Refused> {
-//!     if words[0] == 0 { format(words, 6, 10, ALL) } else { mend(words, ALL) }
+//!     if is_new(words) { format(words, 6, 10, ALL) } else { mend(words, ALL) }
 //! }
 //!
-//! let mut words = vec![0; words_for(6, 10)];
+//! let mut words = vec![0; words_for(6, 10)?];
 //! start(&mut words)?;
 //! put(&mut words, 7, 70, ALL)?;
 //! start(&mut words)?;
 //! assert_eq!(get(&words, 7), Ok(Some(70)));
-//! // Too short a slice is no new memory.
+//! // Too short a slice is not new, nor are words of which word 0 alone is 0.
 //! assert_eq!(start(&mut words[..1000]).unwrap_err().refusal, Refusal::NoStore);
+//! words[0] = 0;
+//! assert_eq!(start(&mut words).unwrap_err().refusal, Refusal::NoStore);
 //! # Ok::<(), Refused>(())
 //! ```
 //!
@@ -116,7 +119,7 @@
 //! a disk is not such memory: the system writes its pages back in any order, in the middle of a call too, and after a
 //! power cut later stores may be there and earlier ones not. `msync` between two calls says that all stores until then
 //! are on the disk; it gives no order to the stores in the middle of a call, nor to those since the last `msync`.
-//! Against such cuts keep copies, made between two calls.
+//! Against such cuts keep copies, made between two calls (`page-index copy` makes one).
 //!
 //! There is no checksum. [`Refusal::NoStore`] and [`Refusal::Broken`] tell a word 0 that no index has, and a directory
 //! that does not fit together. Other damage is not noticed, or looks like a split that was cut off, which a mend takes
@@ -160,10 +163,21 @@ use std::fmt;
 /// An allowance that cuts no call off.
 pub const ALL: u32 = u32::MAX;
 
-/// The words that an index of largest directory depth `depth` with `segments` segments takes, a shape that [`format()`]
-/// does not refuse.
-pub const fn words_for(depth: u32, segments: usize) -> usize {
-    (2 << depth) + 128 * segments
+/// The version of this crate; the header, the Python module and `page-index` say the same.
+pub const VERSION: &str = env!("CARGO_PKG_VERSION");
+
+/// The words that an index of largest directory depth `depth` with `segments` segments takes, 2^(depth + 1) + 128 ×
+/// segments. Refused with [`Refusal::BadShape`] where [`format()`] is.
+pub const fn words_for(depth: u64, segments: u64) -> Result<usize, Refused> {
+    if depth < 2 || depth > 12 || segments < 1 || segments > 1 << depth {
+        return Err(Refused { refusal: Refusal::BadShape, stores: 0 });
+    }
+    Ok((2 << depth) + 128 * segments as usize)
+}
+
+/// Whether all words are 0, as they are in a file made just now. Such a file is formatted, every other one mended.
+pub fn is_new(words: &[u64]) -> bool {
+    words.iter().all(|word| *word == 0)
 }
 
 /// The replies that say no, with their numbers. Bad year, month and number are given by the board alone.

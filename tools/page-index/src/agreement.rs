@@ -1,8 +1,10 @@
 //! What the tool reads by itself against the calls of the library, on whole, cut and damaged arrays.
+use crate::damage::Damage;
 use crate::find::Found;
-use crate::mending::changed_by_mend;
-use crate::reading::{Damage, Shape, State};
-use crate::stat::{strays, unnoticed};
+use crate::findings::Findings;
+use crate::mending::Mending;
+use crate::reading::{Shape, State};
+use crate::restored::{restored, Restored};
 use page_index::{format, get, list, mend, merge, put, remove, words_for, Refusal, ALL};
 use std::collections::BTreeSet;
 use std::hash::{BuildHasher, BuildHasherDefault, DefaultHasher};
@@ -43,13 +45,15 @@ struct Seen {
     stale: usize,
     stray: usize,
     changed: usize,
+    out_of_range: usize,
+    restored: usize,
 }
 
 /// An array that a run leaves whose last call was cut off.
 fn run(random: &mut Random) -> Vec<u64> {
     let depth = 2 + random.below(4);
     let segments = 1 + random.below(1 << depth);
-    let mut words = vec![random.next(); words_for(depth as u32, segments as usize) + random.below(3) as usize];
+    let mut words = vec![random.next(); words_for(depth, segments).unwrap() + random.below(3) as usize];
     format(&mut words, depth, segments, ALL).unwrap();
     for _ in 0..random.below(400) {
         let (key, value) = (random.key(), random.next());
@@ -97,7 +101,7 @@ fn damage(words: &mut Vec<u64>, random: &mut Random) {
         let [from, to] = [0; 2].map(|_| 128 + 2 * random.below(slots as u64 / 2) as usize);
         words.copy_within(from..from + 2, to);
     }
-    for _ in 0..random.below(3) {
+    for _ in 0..random.below(5) {
         if let Some(entry) = words.get_mut(1 + random.below(15) as usize) {
             *entry = random.below(6) | random.below(6) << 32;
         }
@@ -122,21 +126,47 @@ fn listed(words: &[u64]) -> Result<Vec<u64>, Refusal> {
 /// The records that the tool says no lookup finds: all that are listed, but one for each key that a lookup finds.
 fn check_strays(words: &[u64], records: &[u64], seen: &mut Seen) {
     let shape = Shape::read(words).unwrap();
-    let strays = strays(words, &shape, &shape.blocks(words).unwrap());
+    let strays = Findings::of(words, &shape, &shape.blocks(words).unwrap()).strays.len();
     let keys: BTreeSet<u64> = records.chunks_exact(2).map(|record| record[0]).collect();
     let found = keys.iter().filter(|key| get(words, **key).unwrap().is_some()).count();
     assert_eq!(strays, records.len() / 2 - found);
     seen.stray += strays;
 }
 
-/// The lookups that the tool says a mend changes: of all keys that stand anywhere in the segments.
+/// The lookups that the tool says a mend changes: of all keys that stand anywhere in the segments, by the whole answer. Of
+/// a key for each entry, whether it is out of range.
 fn check_mend(words: &[u64], mended: &[u64], seen: &mut Seen) {
     let shape = Shape::read(words).unwrap();
     let keys: BTreeSet<u64> = words[shape.segment_word(0)..shape.words()].iter().copied().step_by(2).collect();
-    let value = |words, key: u64| get(words, key).ok().flatten();
-    let changed = keys.iter().filter(|key| value(words, **key) != value(mended, **key)).count();
-    assert_eq!(changed_by_mend(words, &shape, &shape.blocks(words).unwrap()), changed);
+    let changed = keys.iter().filter(|key| get(words, **key) != get(mended, **key)).count();
+    let refused = (0..shape.entries()).filter(|index| get(words, leading_to(&shape, *index)).is_err()).count();
+    let mending = Mending::of(words, &shape, &shape.blocks(words).unwrap());
+    assert_eq!((mending.lookups, mending.out_of_range), (changed, refused));
     seen.changed += changed;
+    seen.out_of_range += refused;
+}
+
+/// A key that leads to the entry at this index: below 1,024 where the directory has at most 64, so that it is its own
+/// folded key.
+fn leading_to(shape: &Shape, index: usize) -> u64 {
+    let bit = |number: u32| (index as u64 >> (shape.depth - 1 - number) & 1) << (4 + number);
+    (0..shape.depth).map(bit).sum::<u64>() + 1
+}
+
+/// What the tool says of a run's array whose word 0 has become 0: the word that was there, and as many records. A directory
+/// that is one block of segment 0 has only zeros, as one that was never stored, and an older one may be taken for it.
+fn check_restored(words: &[u64], seen: &mut Seen) {
+    let shape = Shape::read(words).unwrap();
+    let found = live(words).unwrap().len() / 2;
+    let entries = &words[shape.entry_word(0)..shape.entry_word(shape.entries())];
+    if found == 0 || shape.depth > 0 && entries.iter().all(|entry| *entry == 0) {
+        return;
+    }
+    // A file of ours has just these words.
+    let mut lost = words[..shape.words()].to_vec();
+    lost[0] = 0;
+    assert_eq!(restored(&lost), Some(Restored { shape, live: found }));
+    seen.restored += 1;
 }
 
 /// What the tool says of the array, as the listing would.
@@ -201,7 +231,9 @@ fn the_tool_reads_what_the_library_reads() {
             damage(&mut words, &mut random);
         } else {
             let shape = Shape::read(&words).unwrap();
-            assert_eq!(unnoticed(&words, &shape, &shape.blocks(&words).unwrap()), None, "a run leaves no damage");
+            let findings = Findings::of(&words, &shape, &shape.blocks(&words).unwrap());
+            assert!(!findings.is_damage(), "a run leaves no damage, and here {findings}");
+            check_restored(&words, &mut seen);
         }
         check_listing(&words, &mut seen);
         for _ in 0..40 {
@@ -209,8 +241,9 @@ fn the_tool_reads_what_the_library_reads() {
         }
     }
     println!("{seen:?}");
-    let Seen { whole, unmended, broken, no_store, found, absent, get_broken, stale, stray, changed } = seen;
-    for often in [whole, unmended, broken, no_store, found, absent, get_broken, stale, stray, changed] {
+    let Seen { whole, unmended, broken, no_store, found, absent, get_broken, stale, stray, .. } = seen;
+    let arrays = [whole, unmended, broken, no_store, stray, seen.changed, seen.out_of_range, seen.restored];
+    for often in arrays.into_iter().chain([found, absent, get_broken, stale]) {
         assert!(often >= 100, "each kind of array and answer must come");
     }
 }

@@ -61,9 +61,9 @@ impl Arguments {
         self.others.try_into().map_err(|_| Failure::Usage(format!("{} takes {names}", self.command)))
     }
 
-    /// Whether the last of the other arguments is this one.
-    pub fn is_last(&self, argument: &str) -> bool {
-        self.others.last().is_some_and(|last| last == argument)
+    /// Whether the other argument at this place is this one.
+    pub fn is_at(&self, place: usize, argument: &str) -> bool {
+        self.others.get(place).is_some_and(|other| other == argument)
     }
 }
 

@@ -1,12 +1,16 @@
 //! The calls, by the proved library on the mapped file.
+use crate::dump::Dump;
 use crate::failure::{Failure, Outcome};
-use crate::mending::changed_by_mend;
-use crate::numbers::{counted, number};
+use crate::mending::Mending;
+use crate::numbers::counted;
 use crate::progress::Progress;
 use crate::reading::Shape;
 use page_index::mapped::{MappedFile, MappedFileMut};
-use page_index::{list_block, Refusal, Refused, ALL, BLOCK_WORDS};
-use std::io::{BufRead, Write};
+use page_index::{Refusal, Refused, ALL, BLOCK_WORDS};
+use std::io::Write;
+
+/// The words that the records of the most segments take, 4,096.
+const MOST_LISTED: usize = 4096 * BLOCK_WORDS;
 
 pub type Ended = Result<Outcome, Failure>;
 
@@ -17,56 +21,46 @@ pub fn open(path: &str) -> Result<MappedFile, Failure> {
 }
 
 /// The words of a file, to be changed.
-fn open_to_change(path: &str) -> Result<MappedFileMut, Failure> {
+pub fn open_to_change(path: &str) -> Result<MappedFileMut, Failure> {
     // SAFETY: as in `open`.
     unsafe { MappedFileMut::open(path) }.map_err(|error| Failure::file(path, error))
 }
 
 /// Says the stores of a call that is done.
-fn stored(out: &mut dyn Write, path: &str, words: &[u64], answer: Result<u32, Refused>) -> Ended {
+pub fn stored(out: &mut dyn Write, path: &str, words: &[u64], answer: Result<u32, Refused>) -> Ended {
     let stores = answer.map_err(|refused| Failure::refused(path, words, refused))?;
     writeln!(out, "done, {}", counted(stores as usize, "store"))?;
     Ok(Outcome::Done)
 }
 
-/// The words for a new index. A file that is not there is made, and one of no bytes gets a length: just the words that
-/// this shape takes.
-fn open_to_format(path: &str, depth: u64, segments: u64) -> Result<MappedFileMut, Failure> {
-    if std::fs::metadata(path).is_ok_and(|file| file.len() > 0) {
-        return open_to_change(path);
-    }
-    let len = page_index::words_for(depth as u32, segments as usize);
-    // SAFETY: as in `open`.
-    unsafe { MappedFileMut::open_or_create(path, len) }.map_err(|error| Failure::file(path, error))
+/// Says that there is no such key.
+fn said_absent(out: &mut dyn Write) -> Ended {
+    writeln!(out, "absent")?;
+    Ok(Outcome::No)
 }
 
-pub fn format(out: &mut dyn Write, path: &str, (depth, segments): (u64, u64), force: bool, allowance: u32) -> Ended {
-    // Of no words the library refuses a bad shape with 8, and every other with 9: no file is made for a bad one.
-    let shape =
-        page_index::format(&mut [], depth, segments, 0).err().filter(|refused| refused.refusal == Refusal::BadShape);
-    if let Some(refused) = shape {
-        return Err(Failure::refused(path, &[], refused));
+/// Says what a get found, or that there is no such key.
+pub fn found(out: &mut dyn Write, path: &str, words: &[u64], answer: Result<Option<u64>, Refused>) -> Ended {
+    match answer.map_err(|refused| Failure::refused(path, words, refused))? {
+        None => said_absent(out),
+        Some(value) => {
+            writeln!(out, "{value}")?;
+            Ok(Outcome::Done)
+        }
     }
-    let mut words = open_to_format(path, depth, segments)?;
-    // Whether the memory is new is told by its words, once nobody else can write them.
-    if !force && words.first().is_some_and(|word| *word != 0) {
-        let said = "word 0 is not 0, and a format empties what is there; --force does it";
-        return Err(Failure::Refused(format!("{path}: {said}")));
+}
+
+/// Says the stores of a remove that is done, or that there was no such key.
+pub fn removed(out: &mut dyn Write, path: &str, words: &[u64], answer: Result<Option<u32>, Refused>) -> Ended {
+    match answer {
+        Ok(None) => said_absent(out),
+        answer => stored(out, path, words, answer.map(|stores| stores.unwrap_or(0))),
     }
-    let answer = page_index::format(&mut words, depth, segments, allowance);
-    stored(out, path, &words, answer)
 }
 
 pub fn get(out: &mut dyn Write, path: &str, key: u64) -> Ended {
     let words = open(path)?;
-    match page_index::get(&words, key).map_err(|refused| Failure::refused(path, &words, refused))? {
-        Some(value) => writeln!(out, "{value}")?,
-        None => {
-            writeln!(out, "absent")?;
-            return Ok(Outcome::No);
-        }
-    }
-    Ok(Outcome::Done)
+    found(out, path, &words, page_index::get(&words, key))
 }
 
 pub fn put(out: &mut dyn Write, path: &str, key: u64, value: u64, allowance: u32) -> Ended {
@@ -75,53 +69,45 @@ pub fn put(out: &mut dyn Write, path: &str, key: u64, value: u64, allowance: u32
     stored(out, path, &words, answer)
 }
 
-/// Puts the records of a text, a line each, as `list` writes them. The first that is refused ends it.
-pub fn put_lines(out: &mut dyn Write, path: &str, lines: impl BufRead) -> Ended {
-    let mut words = open_to_change(path)?;
-    // A damaged index, and one that awaits mending, are refused before anything is read.
-    list_block(&words, 0, &mut [0; BLOCK_WORDS]).map_err(|refused| Failure::refused(path, &words, refused))?;
-    let mut progress = Progress::new("pages put");
-    let mut pages = 0;
-    for line in lines.lines() {
-        let line = line.map_err(|error| Failure::file("standard input", error))?;
-        let at = || format!("{path}, line {} of standard input", pages + 1);
-        let (key, value) = record(&line).ok_or_else(|| Failure::file(&at(), "not a key and a value"))?;
-        page_index::put(&mut words, key, value, ALL).map_err(|refused| Failure::refused(&at(), &words, refused))?;
-        pages += 1;
-        progress.step();
-    }
-    writeln!(out, "done, {}", counted(pages, "page"))?;
-    Ok(Outcome::Done)
-}
-
-fn record(line: &str) -> Option<(u64, u64)> {
-    let (key, value) = line.trim().split_once(char::is_whitespace)?;
-    Some((number(key)?, number(value.trim_start())?))
-}
-
 pub fn remove(out: &mut dyn Write, path: &str, key: u64, allowance: u32) -> Ended {
     let mut words = open_to_change(path)?;
-    match page_index::remove(&mut words, key, allowance) {
-        Ok(None) => {
-            writeln!(out, "absent")?;
-            Ok(Outcome::No)
+    let answer = page_index::remove(&mut words, key, allowance);
+    removed(out, path, &words, answer)
+}
+
+/// An index whose lookups a mend would change was damaged, and is left alone unless it is forced.
+fn must_keep_lookups(path: &str, mending: &Mending, force: bool) -> Result<(), Failure> {
+    match mending.changes_lookups() && !force {
+        false => Ok(()),
+        true => {
+            let said = "copy the file first, --force mends all the same";
+            Err(Failure::damaged(path, format!("damaged: {mending}; {said}")))
         }
-        answer => stored(out, path, &words, answer.map(|stores| stores.unwrap_or(0))),
     }
 }
 
-/// Mends. An index whose lookups a mend would change was damaged, and is left alone unless it is forced.
 pub fn mend(out: &mut dyn Write, path: &str, force: bool, allowance: u32) -> Ended {
     let mut words = open_to_change(path)?;
-    let shape_and_blocks = Shape::read(&words).and_then(|shape| Ok((shape, shape.blocks(&words)?)));
-    let changed = shape_and_blocks.map_or(0, |(shape, blocks)| changed_by_mend(&words, &shape, &blocks));
-    if changed > 0 && !force {
-        let said =
-            format!("damaged: lookups that a mend changes: {changed}; copy the file first, --force mends all the same");
-        return Err(Failure::damaged(path, said));
-    }
+    // Where a leader is not valid the library refuses the mend.
+    let mending = Shape::read(&words).and_then(|shape| Ok(Mending::of(&words, &shape, &shape.blocks(&words)?)));
+    must_keep_lookups(path, &mending.unwrap_or_default(), force)?;
     let answer = page_index::mend(&mut words, allowance);
     stored(out, path, &words, answer)
+}
+
+/// Says what a mend would do, and ends as it would.
+pub fn mend_dry(out: &mut dyn Write, path: &str, force: bool) -> Ended {
+    let file = open(path)?;
+    let dump = Dump::of(path, &file);
+    let (shape, blocks) = dump.read()?;
+    let mending = Mending::of(dump.words, &shape, &blocks);
+    writeln!(out, "a mend has {} to make", counted(mending.stores, "store"))?;
+    match mending.changes_lookups() {
+        false => writeln!(out, "no lookup would change")?,
+        true => writeln!(out, "{mending}")?,
+    }
+    must_keep_lookups(path, &mending, force)?;
+    Ok(Outcome::Done)
 }
 
 pub fn merge(out: &mut dyn Write, path: &str, key: u64, allowance: u32) -> Ended {
@@ -162,8 +148,8 @@ pub fn merge_all(out: &mut dyn Write, path: &str) -> Ended {
 
 pub fn list(out: &mut dyn Write, path: &str) -> Ended {
     let words = open(path)?;
-    // As many words as the index has are always enough.
-    let mut list = vec![0; words.len()];
+    // As many words as the file has are always enough, and so are those of the most segments.
+    let mut list = vec![0; words.len().min(MOST_LISTED)];
     let records = page_index::list(&words, &mut list).map_err(|refused| Failure::refused(path, &words, refused))?;
     for record in list[..2 * records].chunks_exact(2) {
         writeln!(out, "{}\t{}", record[0], record[1])?;

@@ -11,6 +11,10 @@ pub enum Outcome {
     Done,
     /// The key is absent, or the two files differ.
     No,
+    /// Damage was found, and said.
+    Damaged,
+    /// It was said that the index awaits mending.
+    Unmended,
 }
 
 /// Why a command could not be carried out.
@@ -32,11 +36,11 @@ pub enum Failure {
 pub const EXIT_CODES: &str = "\
 Exit codes:
   0  done
-  1  the key is absent; diff: the records differ, with --words the words
+  1  the key or the job is absent; diff: the records differ, with --words the words
   2  wrong arguments
   3  a file cannot be opened, locked, read or written; put: a line of standard input is no record
-  4  no index, or a damaged one: replies 1 and 3, and what stat, find and mend see; nothing is written
-  5  the index awaits mending (reply 4); nothing is written
+  4  no index, or a damaged one: replies 1 and 3, and what stat, check, find, mend and copy see; nothing is written
+  5  the index awaits mending (reply 4, and check); nothing is written
   6  another refusal, which the message names";
 
 impl Outcome {
@@ -44,6 +48,8 @@ impl Outcome {
         match self {
             Outcome::Done => 0,
             Outcome::No => 1,
+            Outcome::Damaged => 4,
+            Outcome::Unmended => 5,
         }
     }
 }
@@ -67,10 +73,28 @@ impl Failure {
         Failure::Damaged(format!("{path}: {why}"))
     }
 
+    /// The same, with one thing more said.
+    pub fn with(self, more: String) -> Failure {
+        let and = |said| format!("{said}; {more}");
+        match self {
+            Failure::Usage(said) => Failure::Usage(and(said)),
+            Failure::File(said) => Failure::File(and(said)),
+            Failure::Damaged(said) => Failure::Damaged(and(said)),
+            Failure::Unmended(said) => Failure::Unmended(and(said)),
+            Failure::Refused(said) => Failure::Refused(and(said)),
+            Failure::Output(error) => Failure::Output(error),
+        }
+    }
+
+    /// Says it on standard error.
+    pub fn tell(&self) {
+        eprintln!("page-index: {self}");
+    }
+
     /// A refusal of the library, with what the words show of its reason.
     pub fn refused(path: &str, words: &[u64], refused: Refused) -> Failure {
         let said = format!("{path}: refused with {}, {}", refused.refusal as u32, reason(refused.refusal));
-        let seen = Shape::read(words).and_then(|shape| shape.blocks(words)).err();
+        let seen = Shape::read(words).and_then(|shape| shape.check_directory(words)).err();
         match (refused.refusal, seen) {
             (Refusal::NoStore | Refusal::Broken, Some(damage)) => Failure::damaged(path, damage),
             (Refusal::NoStore | Refusal::Broken, None) => Failure::Damaged(said),
@@ -116,7 +140,9 @@ fn reason(refusal: Refusal) -> &'static str {
         Refusal::BadShape => "bad shape: D is 2 to 12, S is 1 to 2^D",
         Refusal::TooShort => "too short: the file has fewer than 2^(D+1) + 128 * S words",
         Refusal::ShortList => "short list",
-        Refusal::BadYear | Refusal::BadMonth | Refusal::BadNumber => "an answer of the month board",
+        Refusal::BadYear => "bad year: a year is 1 to 9999",
+        Refusal::BadMonth => "bad month: a month is 1 to 12",
+        Refusal::BadNumber => "bad number: that of a job is 0 to 4095",
         Refusal::NoBuddy => "no buddy: one block fills the directory, or the other half is split further",
         Refusal::BothLive => "both live: some slot has a page in both segments",
         Refusal::NoLeader => "no leader",

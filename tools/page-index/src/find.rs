@@ -1,9 +1,10 @@
 //! `find`: where a key is looked for, word by word.
 use crate::calls::Ended;
+use crate::damage::Damage;
 use crate::dump::Dump;
 use crate::failure::{Failure, Outcome};
-use crate::mending::changed_by_mend;
-use crate::reading::{bucket, directory_bits, folded, Damage, Entry, Shape, Slot, State};
+use crate::mending::Mending;
+use crate::reading::{bucket, directory_bits, folded, Entry, Shape, Slot, State};
 use page_index::{Refusal, Refused};
 use std::io::{self, Write};
 
@@ -88,11 +89,12 @@ pub fn find(out: &mut dyn Write, dump: &Dump, key: u64) -> Ended {
     let outcome = say_hit(out, found.hit(key))?;
     // A get looks at no other entry. That the directory is damaged elsewhere is told all the same.
     let blocks = shape.blocks(dump.words).map_err(|damage| dump.damaged(format!("elsewhere {damage}")))?;
-    if blocks.iter().any(|block| block.unequal > 0) {
+    let mending = Mending::of(dump.words, &shape, &blocks);
+    if mending.stores > 0 {
         writeln!(out, "the index awaits mending")?;
     }
-    match changed_by_mend(dump.words, &shape, &blocks) {
-        0 => Ok(outcome),
-        changed => Err(dump.damaged(format!("damaged: lookups that a mend changes: {changed}"))),
+    match mending.changes_lookups() {
+        false => Ok(outcome),
+        true => Err(dump.damaged(format!("damaged: {mending}"))),
     }
 }

@@ -1,14 +1,25 @@
 //! `page-index`: looks at an index in a file, compares two, and makes the calls on it. `page-index --help` says how.
 mod arguments;
+mod board;
 mod calls;
+mod check;
+mod commands;
+mod copy;
+mod damage;
 mod diff;
 mod dump;
 mod failure;
 mod find;
+mod findings;
+mod formatting;
+mod help;
+mod json;
 mod mending;
 mod numbers;
 mod progress;
+mod putting;
 mod reading;
+mod restored;
 mod show;
 mod stat;
 mod svg;
@@ -16,151 +27,25 @@ mod svg;
 #[cfg(test)]
 mod agreement;
 
-use arguments::{number_of, Arguments};
-use calls::{open, Ended};
-use dump::Dump;
-use failure::{Failure, Outcome, EXIT_CODES};
+use calls::Ended;
+use failure::{Failure, Outcome};
 use std::io::{self, BufWriter, ErrorKind, Write};
 use std::process::ExitCode;
-
-const HELP: &str = "\
-page-index: a page index in a file
-
-Looking (nothing is written to FILE):
-  page-index stat FILE              shape, depth, segments, records, load, mended or not
-  page-index find FILE KEY          where a key is looked for: entry, segment, the sixteen slots with byte offsets
-  page-index show FILE              directory and segments, drawn as text
-             --records              every record with its place, live or stale
-             --svg OUT              as a picture; OUT must not be there, or be a picture
-  page-index diff A B               the records that differ
-             --words                the words that differ, and what each is
-
-The calls, by the proved library on the mapped file:
-  page-index format FILE D S        an empty index; a FILE that is not there, or empty, gets its length.
-                                    --force empties an index
-  page-index get FILE KEY
-  page-index put FILE KEY VALUE
-  page-index put FILE -             the records of standard input, as list writes them
-  page-index remove FILE KEY
-  page-index mend FILE              refused where lookups would change, by damage; --force mends all the same
-  page-index merge FILE KEY         --all in place of KEY: until nothing merges
-  page-index list FILE              key, a tab, value; a line for each record
-  --allowance N                     the stores that format, put, remove, mend or merge may make; not with - and --all
-
-Numbers are decimal, or hexadecimal behind 0x. A file is locked meanwhile (flock).
-";
-
-fn looking(out: &mut dyn Write, command: &str, mut given: Arguments) -> Ended {
-    match command {
-        "stat" => {
-            let [path] = given.others("FILE")?;
-            stat::stat(out, &Dump { path: &path, words: &open(&path)? })
-        }
-        "find" => {
-            let [path, key] = given.others("FILE KEY")?;
-            let key = number_of("KEY", &key)?;
-            find::find(out, &Dump { path: &path, words: &open(&path)? }, key)
-        }
-        "show" => {
-            let (records, svg) = (given.flag("--records"), given.value("--svg"));
-            let [path] = given.others("FILE")?;
-            let dump = Dump { path: &path, words: &open(&path)? };
-            match svg {
-                Some(_) if records => Err(Failure::Usage("show takes --records or --svg, not both".to_string())),
-                Some(picture) => draw(&dump, &picture),
-                None if records => show::records(out, &dump),
-                None => show::show(out, &dump),
-            }
-        }
-        _ => {
-            let by_word = given.flag("--words");
-            let [a, b] = given.others("A B")?;
-            let (in_a, in_b) = (open(&a)?, open(&b)?);
-            let (a, b) = (Dump { path: &a, words: &in_a }, Dump { path: &b, words: &in_b });
-            let compare = if by_word { diff::by_word } else { diff::by_record };
-            compare(out, &a, &b)
-        }
-    }
-}
-
-/// Writes the picture of an index to a file. A damaged index has none, and no file is made. A file that is there is
-/// replaced only if it is a picture: it may be an index, this one too.
-fn draw(dump: &Dump, picture: &str) -> Ended {
-    let (shape, blocks) = dump.read()?;
-    if std::fs::read(picture).is_ok_and(|bytes| !bytes.is_empty() && !bytes.starts_with(b"<svg ")) {
-        return Err(Failure::file(picture, "it is there and no picture, and is left as it is"));
-    }
-    std::fs::write(picture, svg::picture(&shape, dump.words, &blocks))
-        .map_err(|error| Failure::file(picture, error))?;
-    Ok(Outcome::Done)
-}
-
-/// A put of one record, or of those of standard input.
-fn putting(out: &mut dyn Write, mut given: Arguments) -> Ended {
-    if given.is_last("-") {
-        let [path, _] = given.others("FILE -")?;
-        return calls::put_lines(out, &path, io::stdin().lock());
-    }
-    let allowance = given.allowance()?;
-    let [path, key, value] = given.others("FILE KEY VALUE")?;
-    calls::put(out, &path, number_of("KEY", &key)?, number_of("VALUE", &value)?, allowance)
-}
-
-/// One merge, or all that there are.
-fn merging(out: &mut dyn Write, mut given: Arguments) -> Ended {
-    if given.flag("--all") {
-        let [path] = given.others("FILE --all")?;
-        return calls::merge_all(out, &path);
-    }
-    let allowance = given.allowance()?;
-    let [path, key] = given.others("FILE KEY")?;
-    calls::merge(out, &path, number_of("KEY", &key)?, allowance)
-}
-
-fn calling(out: &mut dyn Write, command: &str, mut given: Arguments) -> Ended {
-    match command {
-        "format" => {
-            let (force, allowance) = (given.flag("--force"), given.allowance()?);
-            let [path, depth, segments] = given.others("FILE D S")?;
-            calls::format(out, &path, (number_of("D", &depth)?, number_of("S", &segments)?), force, allowance)
-        }
-        "get" => {
-            let [path, key] = given.others("FILE KEY")?;
-            calls::get(out, &path, number_of("KEY", &key)?)
-        }
-        "put" => putting(out, given),
-        "remove" => {
-            let allowance = given.allowance()?;
-            let [path, key] = given.others("FILE KEY")?;
-            calls::remove(out, &path, number_of("KEY", &key)?, allowance)
-        }
-        "mend" => {
-            let (force, allowance) = (given.flag("--force"), given.allowance()?);
-            let [path] = given.others("FILE")?;
-            calls::mend(out, &path, force, allowance)
-        }
-        "merge" => merging(out, given),
-        _ => {
-            let [path] = given.others("FILE")?;
-            calls::list(out, &path)
-        }
-    }
-}
 
 fn run(out: &mut dyn Write, given: &[String]) -> Ended {
     let Some((command, rest)) = given.split_first() else {
         return Err(Failure::Usage("a command is needed".to_string()));
     };
-    let arguments = || Arguments::read(command, rest, &["--svg", "--allowance"]);
-    match command.as_str() {
-        "--help" | "-h" | "help" => {
-            writeln!(out, "{HELP}\n{EXIT_CODES}")?;
-            Ok(Outcome::Done)
-        }
-        "stat" | "find" | "show" | "diff" => looking(out, command, arguments()?),
-        "format" | "get" | "put" | "remove" | "mend" | "merge" | "list" => calling(out, command, arguments()?),
-        _ => Err(Failure::Usage(format!("{command} is no command"))),
+    let asked_for = |option: &str| given.iter().any(|argument| argument == option);
+    if command == "-h" || command == "help" || asked_for("--help") {
+        writeln!(out, "{}", help::help())?;
+        return Ok(Outcome::Done);
     }
+    if asked_for("--version") {
+        writeln!(out, "{}", help::version())?;
+        return Ok(Outcome::Done);
+    }
+    commands::run(out, command, rest)
 }
 
 fn main() -> ExitCode {
@@ -169,7 +54,10 @@ fn main() -> ExitCode {
     let ended = given
         .map_err(|argument| Failure::Usage(format!("{} is not UTF-8", argument.to_string_lossy())))
         .and_then(|given| run(&mut out, &given))
-        .and_then(|outcome| out.flush().map(|()| outcome).map_err(Failure::from));
+        .and_then(|outcome| match out.flush() {
+            Err(error) if error.kind() != ErrorKind::BrokenPipe => Err(Failure::from(error)),
+            _ => Ok(outcome),
+        });
     match ended {
         Ok(outcome) => ExitCode::from(outcome.status()),
         // Who reads the output has seen enough of it.
@@ -177,7 +65,7 @@ fn main() -> ExitCode {
         Err(failure) => {
             // What was written so far comes first.
             let _ = out.flush();
-            eprintln!("page-index: {failure}");
+            failure.tell();
             ExitCode::from(failure.status())
         }
     }

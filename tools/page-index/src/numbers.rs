@@ -1,4 +1,5 @@
 //! Numbers read and written.
+use std::fmt;
 
 /// A number below 2^64: decimal, or hexadecimal behind 0x.
 pub fn number(text: &str) -> Option<u64> {
@@ -10,4 +11,10 @@ pub fn number(text: &str) -> Option<u64> {
 /// A number of things: `1 store`, `2 stores`.
 pub fn counted(number: usize, thing: &str) -> String {
     format!("{number} {thing}{}", if number == 1 { "" } else { "s" })
+}
+
+/// Writes those of several things of which there are some: `these: 1; those: 2`.
+pub fn write_counted(f: &mut fmt::Formatter<'_>, things: &[(usize, &str)]) -> fmt::Result {
+    let some = things.iter().filter(|(number, _)| *number > 0).map(|(number, thing)| format!("{thing}: {number}"));
+    f.write_str(&some.collect::<Vec<_>>().join("; "))
 }

@@ -1,8 +1,9 @@
 //! The array of words as documents 01 and 02 lay it out, read and never written. The calls of the library read it by
 //! themselves; tests hold the two against each other (`agreement.rs`).
+use crate::damage::Damage;
 use std::fmt;
 
-const MARK: u64 = 0x5041_4746;
+pub const MARK: u64 = 0x5041_4746;
 const OLD_MARK: u64 = 0x5041_4745;
 pub const SEGMENT_WORDS: usize = 128;
 pub const SLOTS: usize = 64;
@@ -16,19 +17,6 @@ pub struct Shape {
     pub max_depth: u32,
     pub segments: usize,
     pub depth: u32,
-}
-
-/// Why a file is no index, or a damaged one.
-#[derive(Clone, Copy, Debug, PartialEq, Eq)]
-pub enum Damage {
-    NoWords,
-    NeverFormatted,
-    OldMark,
-    NoMark { word: u64 },
-    BadShape { shape: Shape },
-    TooShort { needs: usize, has: usize },
-    EntryOutOfRange { index: usize, at: usize, entry: Entry },
-    LeaderNotAligned { index: usize, at: usize, entry: Entry },
 }
 
 /// An entry of the directory: the segment and its local depth.
@@ -82,6 +70,11 @@ pub fn directory_bits(key: u64, count: u32) -> usize {
     (0..count).fold(0, |bits, number| 2 * bits + (folded(key) >> (4 + number)) as usize % 2)
 }
 
+/// The number of words that are not 0.
+pub fn not_zero(words: &[u64]) -> usize {
+    words.iter().filter(|word| **word != 0).count()
+}
+
 impl Shape {
     /// Reads word 0, or says why it is not valid.
     pub fn read(words: &[u64]) -> Result<Shape, Damage> {
@@ -89,7 +82,7 @@ impl Shape {
         match word >> 32 {
             MARK => (),
             OLD_MARK => return Err(Damage::OldMark),
-            _ if word == 0 => return Err(Damage::NeverFormatted),
+            _ if word == 0 => return Err(Damage::Word0 { others: not_zero(words) }),
             _ => return Err(Damage::NoMark { word }),
         }
         let byte = |shift: u32| (word >> shift) as u32 & 0xff;
@@ -103,6 +96,11 @@ impl Shape {
             return Err(Damage::TooShort { needs, has });
         }
         Ok(shape)
+    }
+
+    /// The word 0 that says this.
+    pub fn word(&self) -> u64 {
+        MARK << 32 | (self.segments as u64) << 16 | u64::from(self.max_depth) << 8 | u64::from(self.depth)
     }
 
     /// The words that the index takes.
@@ -151,6 +149,12 @@ impl Shape {
             start += width;
         }
         Ok(blocks)
+    }
+
+    /// Whether every leader is valid and every other entry in range, or the first that is not, leaders before others.
+    pub fn check_directory(&self, words: &[u64]) -> Result<(), Damage> {
+        self.blocks(words)?;
+        (0..self.entries()).try_for_each(|index| self.entry(words, index).map(drop))
     }
 
     /// For each segment, whether an entry names it.
@@ -218,40 +222,5 @@ impl fmt::Display for Entry {
 impl fmt::Display for Shape {
     fn fmt(&self, f: &mut fmt::Formatter<'_>) -> fmt::Result {
         write!(f, "D = {}, S = {}, G = {}", self.max_depth, self.segments, self.depth)
-    }
-}
-
-impl fmt::Display for Damage {
-    fn fmt(&self, f: &mut fmt::Formatter<'_>) -> fmt::Result {
-        match self {
-            Damage::NoWords => write!(f, "no index: the file has not one word of eight bytes"),
-            Damage::NeverFormatted => {
-                write!(f, "no index: word 0 is 0, so it was never formatted, or a format was cut off")
-            }
-            Damage::OldMark => {
-                write!(f, "word 0 has the mark 0x50414745 of before keys were folded: such a store is entered anew")
-            }
-            Damage::NoMark { word } => {
-                write!(f, "no index, or damaged: word 0 is {word:#018x}, whose upper half is not 0x50414746")
-            }
-            Damage::BadShape { shape } => write!(f, "damaged: word 0 says {shape}, and no index has this shape"),
-            Damage::TooShort { needs, has } => {
-                write!(f, "damaged or cut short: word 0 asks for {needs} words, and the file has {has}")
-            }
-            Damage::EntryOutOfRange { index, at, entry } => {
-                write!(
-                    f,
-                    "damaged: entry {index} of the directory (byte {}) says {entry}, which is out of range",
-                    8 * at
-                )
-            }
-            Damage::LeaderNotAligned { index, at, entry } => {
-                write!(
-                    f,
-                    "damaged: entry {index} of the directory (byte {}) says {entry}, and no block of that depth begins there",
-                    8 * at
-                )
-            }
-        }
     }
 }

@@ -1,7 +1,16 @@
 //! `show --svg`: the directory and its segments as a picture.
+use crate::calls::Ended;
+use crate::dump::Dump;
+use crate::failure::{Failure, Outcome};
 use crate::reading::{Block, Shape, State, BUCKET_SLOTS, SLOTS};
 use crate::show::indices;
+use page_index::mapped::open_regular;
 use std::fmt::Write;
+use std::fs::{File, OpenOptions};
+use std::io::{self, ErrorKind, Read, Seek};
+
+/// How a picture begins: by this a file is known as one.
+const START: &str = "<svg xmlns=\"http://www.w3.org/2000/svg\" width=\"";
 
 const LIVE: &str = "#2b6cb0";
 const STALE: &str = "#ed8936";
@@ -85,15 +94,14 @@ fn legend(svg: &mut String, unmended: bool) {
 }
 
 /// The picture of an index.
-pub fn picture(shape: &Shape, words: &[u64], blocks: &[Block]) -> String {
+fn picture(shape: &Shape, words: &[u64], blocks: &[Block]) -> String {
     let columns = columns(blocks.len());
     let width = columns.min(blocks.len().max(3)) * COLUMN - (COLUMN - BOX_WIDTH);
     let top = DIRECTORY_TOP + 16 + STEP * shape.depth as usize + 40;
     let height = top + blocks.len().div_ceil(columns) * ROW;
     let mut svg = String::new();
-    let size = format!("width=\"{0}\" height=\"{height}\" viewBox=\"0 0 {0} {height}\"", width + 2 * MARGIN);
-    let _ =
-        writeln!(svg, "<svg xmlns=\"http://www.w3.org/2000/svg\" {size} font-family=\"sans-serif\" font-size=\"10\">");
+    let size = format!("{0}\" height=\"{height}\" viewBox=\"0 0 {0} {height}\"", width + 2 * MARGIN);
+    let _ = writeln!(svg, "{START}{size} font-family=\"sans-serif\" font-size=\"10\">");
     svg.push_str("<rect width=\"100%\" height=\"100%\" fill=\"white\"/>\n");
     let mut text = |y: usize, said: &str| writeln!(svg, "<text x=\"{MARGIN}\" y=\"{y}\">{said}</text>");
     let _ = text(16, &shape.to_string());
@@ -107,4 +115,40 @@ pub fn picture(shape: &Shape, words: &[u64], blocks: &[Block]) -> String {
     }
     svg.push_str("</svg>\n");
     svg
+}
+
+/// Whether a file begins as a picture does.
+fn is_picture(file: &mut File) -> io::Result<bool> {
+    let mut start = Vec::new();
+    file.take(START.len() as u64).read_to_end(&mut start)?;
+    Ok(start == START.as_bytes())
+}
+
+/// Opens a file that is there and a picture, and empties it. Every other may be an index, this one too, and is left as
+/// it is.
+fn open_picture(path: &str) -> Result<File, Failure> {
+    let mut file =
+        open_regular(path, OpenOptions::new().read(true).write(true)).map_err(|error| Failure::file(path, error))?;
+    if !is_picture(&mut file).map_err(|error| Failure::file(path, error))? {
+        return Err(Failure::file(path, "it is there and no picture, and is left as it is"));
+    }
+    file.set_len(0).and_then(|()| file.rewind()).map_err(|error| Failure::file(path, error))?;
+    Ok(file)
+}
+
+/// Writes the picture of an index to a file. A damaged index has none, and no file is made; nor is one left that could not
+/// be written to the end.
+pub fn draw(dump: &Dump, path: &str) -> Ended {
+    let (shape, blocks) = dump.read()?;
+    let svg = picture(&shape, dump.words, &blocks);
+    let mut file = match OpenOptions::new().write(true).create_new(true).open(path) {
+        Err(error) if error.kind() == ErrorKind::AlreadyExists => open_picture(path)?,
+        made => made.map_err(|error| Failure::file(path, error))?,
+    };
+    io::Write::write_all(&mut file, svg.as_bytes()).map_err(|error| {
+        // What the error says counts, and not whether this works too.
+        let _ = std::fs::remove_file(path);
+        Failure::file(path, error)
+    })?;
+    Ok(Outcome::Done)
 }
