@@ -1,6 +1,6 @@
 // The twin against the library: random runs of calls on small indexes and boards, every answer, every
 // word, every word of a list in its place, and every byte of a print. Then an index of the cabinet's size,
-// filled, listed whole and block by block.
+// filled, every page looked up again, listed whole and block by block.
 //
 //     check [PAGES]     with so many pages at most in that index
 #include "../../bindings/c/month_board.h"
@@ -217,22 +217,59 @@ Words joined_blocks(Words &words, long &blocks) {
     return joined;
 }
 
-// An index of the cabinet's size, filled with running numbers to the first refusal or to `most` pages: whether its
-// blocks, joined, are the full listing.
+// What an index of the cabinet's size takes of running numbers: the pages, the stores of all puts, and the code of the
+// first refusal. Computed by a separate script, written from the documents.
+struct Filled {
+    word pages = 0, stores = 0;
+    std::uint32_t code = PAGE_INDEX_DONE;
+    bool operator==(const Filled &) const = default;
+};
+
+constexpr Filled cabinet_filled{162815, 728870, PAGE_INDEX_NO_SEGMENT};
+
+// The place of a page, as the fill keeps it.
+word place_of(word page) { return 3 * page; }
+
+// Puts the pages 1, 2, 3 and so on to the first refusal, or `most` of them.
+Filled filled(Words &words, word most) {
+    Filled f;
+    while (f.pages < most && f.code == PAGE_INDEX_DONE) {
+        page_index_reply got =
+            page_index_put(words.data(), words.size(), f.pages + 1, place_of(f.pages + 1), 0xffffffff);
+        f.code = got.code;
+        f.stores += got.stores;
+        f.pages += got.code == PAGE_INDEX_DONE;
+    }
+    return f;
+}
+
+// How many of the pages 1 to `pages` a lookup finds with their places.
+word found(const Words &words, word pages) {
+    word count = 0;
+    for (word page = 1; page <= pages; page++) {
+        page_index_reply got = page_index_get(words.data(), words.size(), page);
+        count += got.code == PAGE_INDEX_DONE && got.value == place_of(page);
+    }
+    return count;
+}
+
+// An index of the cabinet's size, filled with running numbers to the first refusal or to `most` pages: whether it takes
+// what it must, every page is found again, and its blocks, joined, are the full listing.
 bool cabinet_agrees(word most) {
     constexpr word depth = 12, segments = 4032;
     Words words((2u << depth) + 128 * segments);
     page_index_format(words.data(), words.size(), depth, segments, 0xffffffff);
-    word pages = 0;
-    auto put = [&] { return page_index_put(words.data(), words.size(), pages + 1, 3 * pages, 0xffffffff); };
-    while (pages < most && put().code == PAGE_INDEX_DONE) pages++;
-    Words before = words, whole(2 * pages);
+    Filled f = filled(words, most);
+    bool known = f.pages == most || f == cabinet_filled;
+    Words before = words, whole(2 * f.pages);
+    word again = found(words, f.pages);
     page_index_reply got = page_index_list(words.data(), words.size(), whole.data(), whole.size());
     long blocks = 0;
-    bool agrees = joined_blocks(words, blocks) == whole && got.value == pages && words == before;
-    std::printf("an index of %zu words with %lu pages, listed in %ld blocks: joined %s\n", words.size(), pages, blocks,
-                agrees ? "the full listing" : "ANOTHER LISTING");
-    return agrees;
+    bool agrees = joined_blocks(words, blocks) == whole && got.value == f.pages && words == before;
+    std::printf("an index of %zu words: %lu pages in %lu stores, then %u%s, %lu found again\n", words.size(), f.pages,
+                f.stores, f.code, known ? "" : " (NOT AS KNOWN)", again);
+    std::printf("listed in %ld blocks: joined %s\n", blocks, agrees ? "the full listing" : "ANOTHER LISTING");
+    return known && again == f.pages && agrees;
 }
 
 }  // namespace

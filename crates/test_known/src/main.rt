@@ -1,13 +1,14 @@
-// Family 1 of the test: document 01's known states a to k, known merges and known lists of one block. Each
-// figure of the documents is compared with what the index says, beside the comparison with the model.
-mod block_lists;
-mod merges;
+// Family 1 of the test: document 01's known states a to k, and known merges and known lists of one block of
+// document 02. Each figure of the documents is compared with what the index says, beside the comparison with the
+// model. The states are the rows of the file `stdin`, whose head says what each letter is for; k alone stands here.
+mod reading;
 
-use block_lists::test_block_lists;
 use index_compare::arrays::ARRAYS;
 use index_compare::arrays::Arrays;
 use index_compare::arrays::INDEX;
+use index_compare::arrays::LISTED;
 use index_compare::arrays::MODEL;
+use index_compare::arrays::SAVED;
 use index_compare::arrays::TALLY;
 use index_compare::compare::compare;
 use index_compare::compare::count_call;
@@ -15,23 +16,28 @@ use index_compare::compare::make;
 use index_compare::report::write_table;
 use index_compare::tally::begin_case;
 use index_compare::tally::expect;
-use index_model::ABSENT;
-use index_model::BAD_SHAPE;
-use index_model::CUT_OFF;
 use index_model::Call;
 use index_model::DONE;
-use index_model::NO_SEGMENT;
 use index_model::Outcome;
-use index_model::TOO_DEEP;
 use index_model::TOO_SHORT;
-use index_model::UNMENDED;
-use merges::test_merges;
+use libc::STDIN_FILENO;
 use model_array::array::words_before;
 use model_array::words::CELLS;
 use model_array::words::Cells;
 use model_array::words::set_word;
 use model_array::words::word_at;
+use reading::AT_LETTER;
+use reading::COLUMNS;
+use reading::DUE;
+use reading::Place;
+use reading::Row;
+use reading::take_in_line;
 use std::num::wrapping_add_u64;
+
+// One byte more than the rows have at most.
+const TEXT_BYTES: usize = 16385;
+
+type Text = [u8; TEXT_BYTES];
 
 // The allowance of the states, and the words for D = 2, S = 4.
 const ALLOWANCE: u32 = 10000;
@@ -43,13 +49,16 @@ const WORDS_K: usize = 532480;
 
 type Largest = [u64; WORDS_K];
 
-// Word 0 after a format with D = 2, S = 4, and with D = 12, S = 4,096.
-const FIRST_WORD_A: u64 = 0x5041474600040200;
+// Word 0 with G = D = 2, S = 4, and after a format with D = 12, S = 4,096.
+const FIRST_WORD_DEEP: u64 = 0x5041474600040202;
 
 const FIRST_WORD_K: u64 = 0x5041474610000C00;
 
 // The keys that fill a window.
 const WINDOW: usize = 16;
+
+// The most records of a block.
+const BLOCK_RECORDS: usize = 64;
 
 // Begins a case: both arrays empty, and this many words of them lent.
 fn begin(arrays: &mut Arrays, length: usize) {
@@ -74,12 +83,6 @@ fn expect_call(arrays: &mut Arrays, call: Call, reply: u32, stores: u32) {
 fn expect_word(arrays: &mut Arrays, at: usize, word: u64) {
     let found = word_at(&arrays[INDEX], at);
     expect(arrays, found == word);
-}
-
-// A format in a case of its own, with the document's reply and stores.
-fn format_state(arrays: &mut Arrays, length: usize, call: Call, reply: u32, stores: u32) {
-    begin(arrays, length);
-    expect_call(arrays, call, reply, stores);
 }
 
 // A key's value in a fill: ten times the key, as in state b.
@@ -111,62 +114,25 @@ fn is_filled(words: &Cells, slot: usize, first: u64, step: u64) -> bool {
     true
 }
 
-// A fill, whose keys lie in the slots from `slot` on.
-fn expect_filled(arrays: &mut Arrays, segments: u32, first: u64, step: u64, slot: usize) {
-    fill(arrays, segments, first, step);
+// Compares where the keys of a fill lie.
+fn expect_filled(arrays: &mut Arrays, slot: usize, first: u64, step: u64) {
     let filled = is_filled(&arrays[INDEX], slot, first, step);
     expect(arrays, filled);
 }
 
-// A state of the kind of e to i: sixteen keys, 7 and on by `step`, fill the slots 28 to 43; then a put.
-fn put_state(arrays: &mut Arrays, segments: u32, step: u64, call: Call, reply: u32, stores: u32) {
-    expect_filled(arrays, segments, 7, step, 28);
-    expect_call(arrays, call, reply, stores);
-}
-
-// The put of state e, with this allowance.
-fn put_263(allowance: u32) -> Call {
-    Call::Put(263, 1, allowance)
-}
-
-// The put of state i, whose key folds to 1030, and one whose key folds to 1031, which has the window and
-// the first two route bits of the sixteen before it.
-const PUT_1031: Call = Call::Put(1031, 1, ALLOWANCE);
-
-const PUT_1030: Call = Call::Put(1030, 1, ALLOWANCE);
-
-// a: word 0 after format, and the least length.
-fn state_a(arrays: &mut Arrays) {
-    let call = Call::Format(2, 4, ALLOWANCE);
-    format_state(arrays, WORDS_4 - 1, call, TOO_SHORT, 0);
-    format_state(arrays, WORDS_4, call, DONE, 67);
-    expect_word(arrays, 0, FIRST_WORD_A);
-}
-
-// b: the first put. Then the same once more, and with 0, which is a value as any other.
-fn state_b(arrays: &mut Arrays) {
-    format_state(arrays, WORDS_4, Call::Format(2, 4, ALLOWANCE), DONE, 67);
-    expect_call(arrays, Call::Put(7, 70, ALLOWANCE), DONE, 2);
-    expect_word(arrays, 65, 70);
-    expect_word(arrays, 64, 7);
-    expect_call(arrays, Call::Put(7, 70, ALLOWANCE), DONE, 1);
-    expect_call(arrays, Call::Put(7, 0, ALLOWANCE), DONE, 1);
-    expect_word(arrays, 65, 0);
+// Stores a word to both arrays.
+fn set_both(arrays: &mut Arrays, at: usize, word: u64) {
+    set_word(&mut arrays[INDEX], at, word);
+    set_word(&mut arrays[MODEL], at, word);
 }
 
 // The directory of depth 2 with four segments.
 fn deepen(words: &mut Cells) {
-    set_word(words, 0, FIRST_WORD_A + 2);
+    set_word(words, 0, FIRST_WORD_DEEP);
     set_word(words, 4, 0x200000000);
     set_word(words, 5, 0x200000001);
     set_word(words, 6, 0x200000002);
     set_word(words, 7, 0x200000003);
-}
-
-// Puts a key into the directory of depth 2, and compares the segment it lands in with its index.
-fn expect_index(arrays: &mut Arrays, key: u64, index: usize) {
-    compare(arrays, Call::Put(key, key, ALLOWANCE));
-    expect_word(arrays, 64 + 128 * (index % 4), key);
 }
 
 // Begins a case with that directory.
@@ -176,55 +142,99 @@ fn begin_deep(arrays: &mut Arrays) {
     arrays[MODEL] = arrays[INDEX];
 }
 
-// d: at depth 2 the keys 7, 39, 23, 55 have the indices 0, 1, 2, 3.
-fn state_d(arrays: &mut Arrays) {
-    begin_deep(arrays);
-    expect_index(arrays, 7, 0);
-    expect_index(arrays, 39, 1);
-    expect_index(arrays, 23, 2);
-    expect_index(arrays, 55, 3);
+// A list of one block that is done, with its number of records and the next index.
+fn list_block(arrays: &mut Arrays, index: u64, room: usize, records: u64, next: u64) {
+    let seen = compare(arrays, Call::ListBlock(index, room));
+    expect(arrays, seen.reply == DONE && seen.stores == 0);
+    expect(arrays, seen.value == records && seen.next == next);
 }
 
-// e: the put that splits. f: the same put allowed 78.
-fn states_e_f(arrays: &mut Arrays) {
-    put_state(arrays, 4, 16, put_263(ALLOWANCE), DONE, 79);
-    expect_word(arrays, 66, 263);
-    put_state(arrays, 4, 16, put_263(78), CUT_OFF, 78);
-    expect_call(arrays, Call::Get(263), ABSENT, 0);
+// Compares a record of the list array.
+fn expect_record(arrays: &mut Arrays, number: usize, key: u64, value: u64) {
+    let at = 2 * (number % BLOCK_RECORDS);
+    let is_right = word_at(&arrays[LISTED], at) == key && word_at(&arrays[LISTED], at + 1) == value;
+    expect(arrays, is_right);
 }
 
-// g: the same put allowed 76.
-fn state_g(arrays: &mut Arrays) {
-    put_state(arrays, 4, 16, put_263(76), CUT_OFF, 76);
-    expect_word(arrays, 2, 0);
-    expect_word(arrays, 3, 0x100000001);
-    expect_call(arrays, put_263(ALLOWANCE), UNMENDED, 0);
-    expect_call(arrays, Call::Mend(ALLOWANCE), DONE, 1);
+// A number of 32 bits, as an allowance or a reply.
+fn half_of(number: u64) -> u32 {
+    (number % 4294967296) as u32
 }
 
-// h: as e with one segment. i: with four, three and two segments.
-fn states_h_i(arrays: &mut Arrays) {
-    put_state(arrays, 1, 16, put_263(ALLOWANCE), NO_SEGMENT, 0);
-    put_state(arrays, 4, 64, PUT_1031, DONE, 2);
-    expect_word(arrays, 56, 1031);
-    put_state(arrays, 3, 64, PUT_1031, DONE, 2);
-    put_state(arrays, 2, 64, PUT_1031, DONE, 2);
-    put_state(arrays, 4, 64, PUT_1030, TOO_DEEP, 140);
-    put_state(arrays, 3, 64, PUT_1030, TOO_DEEP, 140);
-    put_state(arrays, 2, 64, PUT_1030, NO_SEGMENT, 69);
+// The call of a letter, with its numbers. Any other capital letter is a list, which no row asks for: the table would
+// count it.
+fn call_of(letter: u8, first: u64, second: u64, third: u64) -> Call {
+    match letter {
+        b'F' => Call::Format(first, second, half_of(third)),
+        b'G' => Call::Get(first),
+        b'P' => Call::Put(first, second, half_of(third)),
+        b'R' => Call::Remove(first, half_of(second)),
+        b'J' => Call::Merge(first, half_of(second)),
+        b'M' => Call::Mend(half_of(first)),
+        b'B' => Call::ListBlock(first, second as usize),
+        _ => Call::List(0),
+    }
 }
 
-// j: shapes that are refused.
-fn state_j(arrays: &mut Arrays) {
-    format_state(arrays, WORDS_4, Call::Format(1, 4, ALLOWANCE), BAD_SHAPE, 0);
-    format_state(
-        arrays,
-        WORDS_4,
-        Call::Format(13, 4, ALLOWANCE),
-        BAD_SHAPE,
-        0,
-    );
-    format_state(arrays, WORDS_4, Call::Format(2, 5, ALLOWANCE), BAD_SHAPE, 0);
+// Compares what stands in the arrays. A letter that is for nothing is a difference; 0 is that of a comment.
+fn look_at(arrays: &mut Arrays, letter: u8, first: u64, second: u64, third: u64) {
+    match letter {
+        b'w' => expect_word(arrays, first as usize, second),
+        b'r' => expect_record(arrays, first as usize, second, third),
+        b't' => expect_filled(arrays, first as usize, second, third),
+        _ => expect(arrays, letter == 0),
+    }
+}
+
+// Begins a case, or changes the arrays.
+fn set_up(arrays: &mut Arrays, letter: u8, first: u64, second: u64, third: u64) {
+    match letter {
+        b'c' => begin(arrays, first as usize),
+        b'f' => fill(arrays, half_of(first), second, third),
+        b'd' => begin_deep(arrays),
+        b'i' => set_both(arrays, first as usize, second),
+        b's' => arrays[SAVED] = arrays[INDEX],
+        b'u' => arrays[MODEL] = arrays[SAVED],
+        _ => look_at(arrays, letter, first, second, third),
+    }
+}
+
+// Does what a row asks for.
+fn take_row(arrays: &mut Arrays, row: &Row) {
+    let letter = (row[0] % 256) as u8;
+    let first = row[1];
+    let second = row[2];
+    let third = row[3];
+    match letter {
+        b'A'..=b'Z' => {
+            let call = call_of(letter, first, second, third);
+            expect_call(arrays, call, half_of(row[DUE]), half_of(row[DUE + 1]));
+        }
+        b'b' => list_block(arrays, first, second as usize, row[DUE], row[DUE + 1]),
+        b'p' => {
+            compare(arrays, call_of(b'P', first, second, third));
+        }
+        _ => set_up(arrays, letter, first, second, third),
+    }
+}
+
+// Takes a byte of the text: a line feed ends a row.
+fn take_byte(arrays: &mut Arrays, row: &mut Row, place: Place, byte: u8) -> Place {
+    if byte == b'\n' {
+        take_row(arrays, row);
+        *row = [0u64; COLUMNS];
+        return AT_LETTER;
+    }
+    take_in_line(row, place, byte)
+}
+
+// Goes through all rows of the text.
+fn take_rows(arrays: &mut Arrays, text: &Text) {
+    let mut row = [0u64; COLUMNS];
+    let mut place = AT_LETTER;
+    for at in 0..TEXT_BYTES {
+        place = take_byte(arrays, &mut row, place, text[at]);
+    }
 }
 
 // Whether word 0 is this one, and every other word 0.
@@ -263,19 +273,12 @@ fn state_k(arrays: &mut Arrays) {
     format_largest(arrays, &mut words, WORDS_K, DONE, 67, FIRST_WORD_K);
 }
 
-// All known states. c: key 15 has the buckets 15, 0, 1, 2: keys of its bucket fill the slots 60 to 63 and
-// 0 to 11.
+// The states of the text, which must have ended within the array, and k.
 fn test_known(arrays: &mut Arrays) {
-    state_a(arrays);
-    state_b(arrays);
-    expect_filled(arrays, 4, 15, 16, 60);
-    state_d(arrays);
-    states_e_f(arrays);
-    state_g(arrays);
-    test_merges(arrays);
-    test_block_lists(arrays);
-    states_h_i(arrays);
-    state_j(arrays);
+    let mut text = [0u8; TEXT_BYTES];
+    let size = io::read_full(STDIN_FILENO, &mut text);
+    expect(arrays, size < TEXT_BYTES);
+    take_rows(arrays, &text);
     state_k(arrays);
 }
 
