@@ -57,7 +57,7 @@ loop-again c =
       omega (arith, c .before .before .before .before),
       omega (arith, p .count, i .1),
       executed-length p ∙ i .2,
-      after-turn (λ (t : ℕ). store (a .first + (a .count - suc t)) (a .entry) ∷ []) t _ _ _ _ _ _ _ (i .3) (rw same at p),
+      after-turn (λ (t : ℕ). store (a .first + (a .count - suc t)) (a .entry) ∷ []) t _ _ _ _ _ _ _ (i .3) (rw (← same) p),
     )
 
 same-length : tie.Need-same-length Inv-loop μ-loop

@@ -1,7 +1,7 @@
 -- `layout::key::directory_index` meets its contract.
 -- Assumes nothing.
 use borrow.Author.Needs.{needs}
-use mathlib.Core.Path.{_≡_, _∙_}
+use mathlib.Core.Path.{_≡_, sym, _∙_}
 use Prim.Native.Nat.{ℕ, _+_, _*_, _/_, _<_}
 use native.Mathlib.Omega.{arith}
 use Rattle.rules.specs.Keys.{firstBits}
@@ -59,8 +59,13 @@ shr-result c = search needs
 
 returns : tie.Need-returns
 returns c =
-    rw (c .before .before .first-four .ensures, c .before .first-four2 .ensures, c .first-four3 .ensures, ← twelve (c .before .before .before .args .bits), ← blockBits-shift 12 (c .before .before .before .args .depth) (firstBits (c .before .before .before .args .bits) 12))
-    (first-shift (c .before .before .before .args .bits) 12 (c .before .before .before .args .depth) (omega arith))
+    let a = c .before .before .before .args in
+    let first = c .before .before .first-four in
+    let second = c .before .first-four2 in
+    let third = c .first-four3 in
+    let joined : 256 * (first .result) + 16 * (second .result) + third .result ≡ firstBits (a .bits) 12 =
+    rw (first .ensures, second .ensures, third .ensures) (sym (twelve (a .bits))) in
+    rw (joined, ← blockBits-shift 12 (a .depth) (firstBits (a .bits) 12)) (first-shift (a .bits) 12 (a .depth) (omega arith))
 
 pub directory-index-spec : {M : Type 1} → statement M
 directory-index-spec =
