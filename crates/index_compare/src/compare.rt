@@ -98,30 +98,11 @@ fn request_of(call: Call) -> rules::Call {
     }
 }
 
-// A call of the index on the first words of an array, with an empty list array.
-fn made_on(words: &mut [u64], length: usize, call: Call) -> Answer {
-    let end = within(length, words.len());
-    index::perform(&mut words[..end], &mut [], request_of(call))
-}
-
-// A list of the first words of an array into the first words of a list array.
-fn listed_on(words: &[u64], length: usize, list: &mut [u64], room: usize) -> Answer {
+// A call of the index on the first words of an array, with the first words of a list array.
+fn made_on(words: &mut [u64], length: usize, list: &mut [u64], room: usize, call: Call) -> Answer {
     let end = within(length, words.len());
     let list_end = within(room, list.len());
-    index::list(&words[..end], &mut list[..list_end])
-}
-
-// A list of one block of the first words of an array into the first words of a list array.
-fn block_listed_on(
-    words: &[u64],
-    length: usize,
-    index: u64,
-    list: &mut [u64],
-    room: usize,
-) -> Answer {
-    let end = within(length, words.len());
-    let list_end = within(room, list.len());
-    index::list_block(&words[..end], index, &mut list[..list_end])
+    index::perform(&mut words[..end], &mut list[..list_end], request_of(call))
 }
 
 // What follows a block in the model's numbers: 0 behind the last.
@@ -172,7 +153,7 @@ fn said_by(answer: Answer) -> Outcome {
 
 // Makes a call of the index on the first words of an array. Nobody compares or counts it.
 pub fn make(words: &mut [u64], length: usize, call: Call) -> Outcome {
-    said_by(made_on(words, length, call))
+    said_by(made_on(words, length, &mut [], 0, call))
 }
 
 // Whether the call may be refused so, by document 01's table of refusals, and by document 02 for a merge and
@@ -278,26 +259,18 @@ fn judge_list(arrays: &mut Arrays, call: Call, answer: Answer, list: &Cells) -> 
     judge(arrays, call, answer, outcome, is_listed)
 }
 
-// Makes a list on both, with `room` words of a list array.
-fn compare_list(arrays: &mut Arrays, room: usize) -> Outcome {
+// Makes a list, of all blocks or of one, on both, with `room` words of a list array.
+fn compare_list(arrays: &mut Arrays, call: Call, room: usize) -> Outcome {
     let mut list = [LIST_FILL; CELLS];
     let length = arrays[TALLY][LENT] as usize;
-    let answer = listed_on(&arrays[INDEX], length, &mut list, room);
-    judge_list(arrays, Call::List(room), answer, &list)
-}
-
-// Makes a list of one block on both, with `room` words of a list array.
-fn compare_list_block(arrays: &mut Arrays, index: u64, room: usize) -> Outcome {
-    let mut list = [LIST_FILL; CELLS];
-    let length = arrays[TALLY][LENT] as usize;
-    let answer = block_listed_on(&arrays[INDEX], length, index, &mut list, room);
-    judge_list(arrays, Call::ListBlock(index, room), answer, &list)
+    let answer = made_on(&mut arrays[INDEX], length, &mut list, room, call);
+    judge_list(arrays, call, answer, &list)
 }
 
 // Makes a call that lists nothing on both.
 fn compare_other(arrays: &mut Arrays, call: Call) -> Outcome {
     let length = arrays[TALLY][LENT] as usize;
-    let answer = made_on(&mut arrays[INDEX], length, call);
+    let answer = made_on(&mut arrays[INDEX], length, &mut [], 0, call);
     let outcome = index_model::perform(&mut arrays[MODEL], length, call);
     judge(arrays, call, answer, outcome, true)
 }
@@ -305,8 +278,8 @@ fn compare_other(arrays: &mut Arrays, call: Call) -> Outcome {
 // Makes a call on both, and compares and counts it.
 pub fn compare(arrays: &mut Arrays, call: Call) -> Outcome {
     match call {
-        Call::List(room) => compare_list(arrays, room),
-        Call::ListBlock(index, room) => compare_list_block(arrays, index, room),
+        Call::List(room) => compare_list(arrays, call, room),
+        Call::ListBlock(_, room) => compare_list(arrays, call, room),
         _ => compare_other(arrays, call),
     }
 }
