@@ -83,10 +83,11 @@ doubledWithin n a key = pick (ltb n (length (doublingFor a key))) a (apply (doub
 abbrev pub storesBeforeEntries : List ℕ → (key n : ℕ) → ℕ
 storesBeforeEntries a key n = length (splitting a key n) - width (depth (apply (doublingFor a key) a)) (localDepth (keyEntry a key))
 
--- The array that the split found in which a put was cut; and how many stores were made in that split.
+-- The array that the split found in which a put was cut.
 abbrev pub splitFrom : {a : List ℕ} {key allowance : ℕ} → CutInSplit a key allowance → List ℕ
 splitFrom {a} {key} c = behindSplits key (c .finished) a
 
+-- How many stores were made in that split.
 abbrev pub madeInSplit : {a : List ℕ} {key allowance : ℕ} → CutInSplit a key allowance → ℕ
 madeInSplit {a} {key} {allowance} c = allowance - splitStores key (c .finished) a
 
