@@ -16,7 +16,7 @@ PERFORM = "index::perform"
 # The functions that are read by their whole form. Whoever changes one reads it again: that the allowance decides here about
 # this one store alone, and there about the reply alone.
 PINNED = {
-    # words, at, value, allowed, due
+    # words, at, value, allowance, due
     STORE: """\
 _6 = (lt unsigned) _5 _4
 if _6
@@ -30,7 +30,7 @@ else
 _0 = (add unsigned) _5 1
 return
 """,
-    # reply, allowed, due
+    # reply, allowance, due
     END: """\
 _4 = (lt unsigned) _2 _3
 if _4

@@ -18,7 +18,7 @@ use Rattle.replies.specs.Replies.{Said, done, listed, absent, refused, saidBy}
 use Rattle.replies.specs.Writing.{Writing, nothing}
 use Rattle.replies.specs.Answered.{Wrote}
 use Rattle.replies.proofs.Outcomes.{refused-not-done}
-use Rattle.rules.proofs.Lookups.{lookup-refused, lookups-refused-same}
+use Rattle.index_laws.proofs.Lookups.{lookup-refused, lookups-refused-same}
 use Rattle.board.specs.Jobs.{validYear, jobKey}
 use Rattle.board.specs.Print.{Job, textOf, Lookup, lookup, yearLookups, firstRefusal, refusedIn, allNumbers, printYear}
 use Rattle.board.specs.Passes.{bytesOf}

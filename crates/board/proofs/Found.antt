@@ -14,9 +14,9 @@ use Rattle.replies.specs.declared.Refusal.{Refusal}
 use Rattle.replies.specs.declared.Reply.{Reply}
 use Rattle.replies.specs.declared.Reply.the-variants.{Done, Value, Listed, Absent, Refused as RefusedReply}
 use Rattle.replies.specs.Replies.{Said, done, listed, absent, refused, saidBy}
-use Rattle.rules.specs.declared.Call.the-variants.{Get}
-use Rattle.rules.specs.Get.{get}
-use Rattle.rules.specs.Step.{effect, step, outcomeOf}
+use Rattle.index_rules.specs.declared.Call.the-variants.{Get}
+use Rattle.index_rules.specs.Get.{get}
+use Rattle.index_rules.specs.Step.{effect, step, outcomeOf}
 use Rattle.replies.specs.Answered.{Answered}
 use Rattle.text.proofs.Digits.{length-decimal}
 use Rattle.board.specs.declared.count.Counted.the-variants.{Bytes, Refused}

@@ -6,10 +6,10 @@ use mathlib.Core.Option.{Option, none, some}
 use native.Mathlib.Omega.{arith}
 use Rattle.replies.specs.declared.Refusal.{Refusal}
 use Rattle.replies.specs.Replies.{numberOf}
-use Rattle.rules.specs.declared.Call.the-variants.{Put}
-use Rattle.rules.specs.Full.{ForWantOfSpace}
-use Rattle.rules.specs.Step.{outcomeOf}
-use Rattle.rules.proofs.Full.{refused-otherwise, put-for-want-of-space}
+use Rattle.index_rules.specs.declared.Call.the-variants.{Put}
+use Rattle.index_laws.specs.Full.{ForWantOfSpace}
+use Rattle.index_rules.specs.Step.{outcomeOf}
+use Rattle.index_laws.proofs.Full.{refused-otherwise, put-for-want-of-space}
 use Rattle.board.specs.Jobs.{jobKey, jobTests, behind, onJob}
 use Rattle.board.specs.Full.{SetForWantOfSpace}
 use Rattle.board.proofs.Jobs.{tests-late}

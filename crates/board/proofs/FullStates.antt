@@ -10,14 +10,14 @@ use lib.ListN.{replicate}
 use Rattle.stores.specs.Lists.{each}
 use Rattle.stores.specs.Store.{Store, store, apply}
 use Rattle.replies.specs.Replies.{refused}
-use Rattle.rules.specs.declared.Call.the-variants.{Format}
-use Rattle.rules.specs.Layout.{maxDepth, segments, localDepth}
-use Rattle.rules.specs.Keys.{window}
-use Rattle.rules.specs.Slots.{named}
-use Rattle.rules.specs.Get.{keyEntry}
-use Rattle.rules.specs.Step.{outcomeOf}
-use Rattle.rules.specs.Full.{ForWantOfSpace}
-use Rattle.rules.proofs.Table.{computed}
+use Rattle.index_rules.specs.declared.Call.the-variants.{Format}
+use Rattle.index_rules.specs.Layout.{maxDepth, segments, localDepth}
+use Rattle.index_rules.specs.Keys.{window}
+use Rattle.index_rules.specs.Slots.{named}
+use Rattle.index_rules.specs.Get.{keyEntry}
+use Rattle.index_rules.specs.Step.{outcomeOf}
+use Rattle.index_laws.specs.Full.{ForWantOfSpace}
+use Rattle.index_rules.proofs.Table.{computed}
 use Rattle.board.specs.Jobs.{validYear, validMonth, validNumber, jobKey, yearTests, jobTests, behind, onJob, setJob}
 use Rattle.board.specs.Full.{SetForWantOfSpace}
 

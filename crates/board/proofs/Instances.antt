@@ -18,12 +18,12 @@ use Rattle.replies.specs.declared.Reply.the-variants.{Value}
 use Rattle.replies.specs.Replies.{done, absent, refused, unless, replied}
 use Rattle.replies.specs.Writing.{Writing, nothing}
 use Rattle.replies.specs.Answered.{Wrote}
-use Rattle.rules.specs.Layout.{depth, segments, validHeader, keyAt}
-use Rattle.rules.specs.Keys.{window}
-use Rattle.rules.specs.Scan.{inRange}
-use Rattle.rules.specs.Slots.{hit}
-use Rattle.rules.specs.Get.{keyEntry, keySegment, keyTests, entryTests, getTests, valueAtHit, get}
-use Rattle.rules.proofs.Table.{computed}
+use Rattle.index_rules.specs.Layout.{depth, segments, validHeader, keyAt}
+use Rattle.index_rules.specs.Keys.{window}
+use Rattle.index_rules.specs.Scan.{inRange}
+use Rattle.index_rules.specs.Slots.{hit}
+use Rattle.index_rules.specs.Get.{keyEntry, keySegment, keyTests, entryTests, getTests, valueAtHit, get}
+use Rattle.index_rules.proofs.Table.{computed}
 use Rattle.text.specs.Parts.{startedBy, parts, nonempty, linesOf, fieldsOf}
 use Rattle.text.specs.Number.{isDigit, allDigits, valueFrom, number}
 use Rattle.board.specs.Jobs.{validYear, validMonth, validNumber, jobKey}

@@ -16,8 +16,8 @@ use Rattle.replies.specs.declared.Answer.{Answer}
 use Rattle.replies.specs.declared.Reply.the-variants.{Refused as RefusedReply}
 use Rattle.replies.specs.Replies.{numberOf, saidBy, unless}
 use Rattle.replies.proofs.Sayable.{given-by, unless-given}
-use Rattle.rules.specs.declared.Call.{Call}
-use Rattle.rules.specs.Step.{outcomeOf}
+use Rattle.index_rules.specs.declared.Call.{Call}
+use Rattle.index_rules.specs.Step.{outcomeOf}
 use Rattle.replies.specs.Answered.{Answered}
 use Rattle.board.specs.declared.job.Keyed.{Keyed}
 use Rattle.board.specs.declared.job.Keyed.the-variants.{Key, Refused}

@@ -13,17 +13,17 @@ use Rattle.stores.specs.Plan.{Outcome, cut}
 use Rattle.stores.proofs.Lists.{each-same}
 use Rattle.replies.specs.declared.Refusal.{Refusal}
 use Rattle.replies.specs.Replies.{Said, refused, refuse, changed}
-use Rattle.rules.specs.declared.Call.{Call}
-use Rattle.rules.specs.declared.Call.the-variants.{Get, Put}
-use Rattle.rules.specs.Get.{get}
-use Rattle.rules.specs.Step.{effect, step, outcomeOf}
-use Rattle.rules.specs.OneNumber.{AtMostOneWord, oneMore, SameButOneWord}
-use Rattle.rules.specs.Limits.{extent, Alike, SameOutcome, Unchanged}
-use Rattle.rules.proofs.Range.{step-length, step-untouched}
-use Rattle.rules.proofs.Local.{step-local}
-use Rattle.rules.proofs.Bound.{put-bound}
-use Rattle.rules.proofs.Refusals.{refusal-unchanged}
-use Rattle.rules.proofs.OneNumber.{at-most-one, one-more-allowed, other-value}
+use Rattle.index_rules.specs.declared.Call.{Call}
+use Rattle.index_rules.specs.declared.Call.the-variants.{Get, Put}
+use Rattle.index_rules.specs.Get.{get}
+use Rattle.index_rules.specs.Step.{effect, step, outcomeOf}
+use Rattle.index_laws.specs.OneNumber.{AtMostOneWord, oneMore, SameButOneWord}
+use Rattle.index_laws.specs.Limits.{extent, Alike, SameOutcome, Unchanged}
+use Rattle.index_laws.proofs.Range.{step-length, step-untouched}
+use Rattle.index_laws.proofs.Local.{step-local}
+use Rattle.index_laws.proofs.Bound.{put-bound}
+use Rattle.index_laws.proofs.Refusals.{refusal-unchanged}
+use Rattle.index_laws.proofs.OneNumber.{at-most-one, one-more-allowed, other-value}
 use Rattle.board.specs.Jobs.{jobKey, jobTests, behind, onJob, setJob}
 use Rattle.board.specs.Print.{monthLookups, yearLookups, printOver, allNumbers, printYear}
 

@@ -14,7 +14,7 @@ use Rattle.stores.specs.Written.{atFront}
 use Rattle.stores.proofs.Lists.{all-at}
 use Rattle.stores.proofs.Written.{at-front-words}
 use Rattle.stores.proofs.Tests.{and-left, and-right}
-use Rattle.rules.proofs.Lookups.{found-below}
+use Rattle.index_laws.proofs.Lookups.{found-below}
 use Rattle.text.specs.Parts.{tab, lineFeed, fieldsOf}
 use Rattle.text.specs.Number.{number, decimal}
 use Rattle.text.proofs.Digits.{number-decimal}

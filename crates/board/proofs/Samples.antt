@@ -15,9 +15,9 @@ use Rattle.stores.proofs.Tests.{and-left, and-right}
 use Rattle.stores.specs.Plan.{Outcome}
 use Rattle.replies.specs.Replies.{Said, done, absent, refused, saidSame}
 use Rattle.replies.specs.Writing.{Writing, behindTests}
-use Rattle.rules.specs.declared.Call.the-variants.{Format}
-use Rattle.rules.specs.Step.{outcomeOf}
-use Rattle.rules.proofs.Table.{computed, wordsSeen}
+use Rattle.index_rules.specs.declared.Call.the-variants.{Format}
+use Rattle.index_rules.specs.Step.{outcomeOf}
+use Rattle.index_rules.proofs.Table.{computed, wordsSeen}
 use Rattle.text.specs.Parts.{startedBy, parts, nonempty, linesOf, fieldsOf}
 use Rattle.text.specs.Number.{isDigit, allDigits, valueFrom, number, spelled, decimal}
 use Rattle.board.specs.Jobs.{validYear, validMonth, validNumber, jobKey, yearTests, jobTests, behind, onJob, setJob, readJob, removeJob}

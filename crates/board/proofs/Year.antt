@@ -9,8 +9,8 @@ use native.Mathlib.Omega.{arith}
 use Rattle.stores.specs.Lists.{each}
 use Rattle.stores.proofs.Lists.{each-same, mem-each, each-mem}
 use Rattle.replies.specs.Replies.{Said, done, listed, absent, refused}
-use Rattle.rules.specs.Get.{get, GetSays, finds, misses, no-store, no-key, broken}
-use Rattle.rules.proofs.Lookups.{get-says}
+use Rattle.index_rules.specs.Get.{get, GetSays, finds, misses, no-store, no-key, broken}
+use Rattle.index_laws.proofs.Lookups.{get-says}
 use Rattle.board.specs.Jobs.{jobKey}
 use Rattle.board.specs.Print.{Job, job, Lookup, yearLookups, jobFound, jobsIn, allNumbers}
 use Rattle.board.specs.Claims.{placeOf, Rising, JobsOfYear}

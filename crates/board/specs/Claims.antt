@@ -12,7 +12,7 @@ use Rattle.replies.specs.declared.Answer.{Answer}
 use Rattle.replies.specs.Replies.{done, refused, saidBy}
 use Rattle.replies.specs.Writing.{Writing, nothing}
 use Rattle.replies.specs.Answered.{Wrote}
-use Rattle.rules.specs.Get.{get}
+use Rattle.index_rules.specs.Get.{get}
 use Rattle.board.specs.Jobs.{validYear, validMonth, validNumber, jobKey}
 use Rattle.board.specs.Print.{Job, job, textOf, printYear}
 use Rattle.board.specs.ReadBack.{jobsRead}

@@ -3,7 +3,7 @@
 -- Assumes nothing.
 use Prim.Native.Nat.{ℕ}
 use mathlib.Core.List.{List}
-use Rattle.rules.specs.Full.{ForWantOfSpace}
+use Rattle.index_laws.specs.Full.{ForWantOfSpace}
 use Rattle.board.specs.Jobs.{jobKey, setJob}
 
 -- Of every set, on every array and with every allowance: 5 and 6 are said only where that holds of the job's key in the array left.

@@ -10,9 +10,9 @@ use Rattle.stores.specs.Plan.{Outcome}
 use Rattle.replies.specs.declared.Refusal.{Refusal}
 use Rattle.replies.specs.declared.Refusal.the-variants.{BadYear, BadMonth, BadNumber}
 use Rattle.replies.specs.Replies.{Said, refuse, unless}
-use Rattle.rules.specs.declared.Call.{Call}
-use Rattle.rules.specs.declared.Call.the-variants.{Get, Put, Remove}
-use Rattle.rules.specs.Step.{outcomeOf}
+use Rattle.index_rules.specs.declared.Call.{Call}
+use Rattle.index_rules.specs.declared.Call.the-variants.{Get, Put, Remove}
+use Rattle.index_rules.specs.Step.{outcomeOf}
 use Rattle.board.specs.declared.job.Keyed.{Keyed}
 use Rattle.board.specs.declared.job.Keyed.the-variants.{Key, Refused}
 

@@ -9,7 +9,7 @@ use Rattle.stores.specs.Lists.{pick, each}
 use Rattle.replies.specs.declared.Refusal.the-variants.{ShortList}
 use Rattle.replies.specs.Replies.{Said, done, listed, absent, refused, refuse}
 use Rattle.replies.specs.Writing.{Writing, nothing, behindTests}
-use Rattle.rules.specs.Get.{get}
+use Rattle.index_rules.specs.Get.{get}
 use Rattle.text.specs.Parts.{tab, lineFeed}
 use Rattle.text.specs.Number.{decimal}
 use Rattle.board.specs.Jobs.{jobKey, yearTests}

@@ -7,14 +7,14 @@ use mathlib.Core.Bool.{true}
 use mathlib.Core.List.{List, [], _∷_}
 use mathlib.Core.Option.{none}
 use lib.ListN.{replicate}
-use Rattle.rules.specs.declared.Call.the-variants.{Get, Mend}
-use Rattle.rules.specs.Step.{outcomeOf}
-use Rattle.rules.proofs.Table.{computed}
+use Rattle.index_rules.specs.declared.Call.the-variants.{Get, Mend}
+use Rattle.index_rules.specs.Step.{outcomeOf}
+use Rattle.index_rules.proofs.Table.{computed}
 use Rattle.runs.specs.Map.{empty, updated, fed, mapSays}
 use Rattle.runs.specs.Run.{Point, start, mayFollow, isRecovery, recoveryAfter, claimed, next, finish, validRun, Reached}
 use Rattle.runs.specs.BeforeMending.{mendsBehind, mendsToCompletion}
 use Rattle.runs.proofs.Runs.{all-linked}
-use Rattle.history.specs.History.{Formatted}
+use Rattle.index_history.specs.History.{Formatted}
 use Rattle.board.specs.Jobs.{validYear, validMonth, validNumber, jobKey, yearTests, jobTests, behind, onJob, readJob}
 use Rattle.board.specs.Print.{printYear}
 use Rattle.board_history.specs.BoardHistory.{BoardCall, sets, reads, board, BoardHistoryRule, JobsReadBack, BoardBeforeMending, PrintBeforeMending}

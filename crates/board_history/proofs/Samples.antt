@@ -8,10 +8,10 @@ use mathlib.Core.Option.{Option, none, some}
 use lib.ListN.{replicate}
 use Rattle.stores.specs.Lists.{each}
 use Rattle.replies.specs.Replies.{Said, saidSame}
-use Rattle.rules.specs.declared.Call.{Call}
-use Rattle.rules.specs.declared.Call.the-variants.{Format, Get, Mend}
-use Rattle.rules.specs.Step.{outcomeOf}
-use Rattle.rules.proofs.Table.{computed}
+use Rattle.index_rules.specs.declared.Call.{Call}
+use Rattle.index_rules.specs.declared.Call.the-variants.{Format, Get, Mend}
+use Rattle.index_rules.specs.Step.{outcomeOf}
+use Rattle.index_rules.proofs.Table.{computed}
 use Rattle.runs.specs.Map.{Map, empty, updated, fed, mapSays}
 use Rattle.runs.specs.Run.{start, mayFollow, isRecovery, recoveryAfter, claimed, next, finish, validRun}
 use Rattle.runs.specs.Check.{getAgrees, callsAgree, getsAgree, agrees}

@@ -12,18 +12,18 @@ use lib.ListN.{length}
 use Rattle.stores.specs.Plan.{Outcome}
 use Rattle.replies.specs.declared.Refusal.{Refusal}
 use Rattle.replies.proofs.Outcomes.{refused-not-done}
-use Rattle.rules.specs.declared.Call.the-variants.{Get, Put, Remove}
+use Rattle.index_rules.specs.declared.Call.the-variants.{Get, Put, Remove}
 use Rattle.replies.specs.Replies.{Said, done, refused, numberOf, unless}
 use Rattle.replies.specs.Writing.{behindTests}
-use Rattle.rules.specs.Step.{effect, step, outcomeOf}
+use Rattle.index_rules.specs.Step.{effect, step, outcomeOf}
 use Rattle.runs.specs.Map.{View, looks, mapSays, fed}
 use Rattle.runs.specs.Run.{Point, start, mayFollow, isRecovery, claimed, next, finish, Linked, CallAgrees}
 use Rattle.runs.proofs.Runs.{Invariant, runs-agree, all-linked}
 use Rattle.runs.proofs.BeforeMending.{lookups-before-mending}
-use Rattle.history.specs.History.{Formatted}
-use Rattle.history.proofs.Plans.{Good, CallKept, nothing-changed}
-use Rattle.history.proofs.Calls.{get-is-map}
-use Rattle.history.proofs.Theorem.{good-start, call-kept}
+use Rattle.index_history.specs.History.{Formatted}
+use Rattle.index_history.proofs.Plans.{Good, CallKept, nothing-changed}
+use Rattle.index_history.proofs.Calls.{get-is-map}
+use Rattle.index_history.proofs.Theorem.{good-start, call-kept}
 use Rattle.board.specs.Jobs.{validYear, jobKey, yearTests, jobTests, behind, onJob, readJob}
 use Rattle.board.specs.Print.{textOf, printOver, printYear}
 use Rattle.board.specs.Claims.{PrintSays, bad-year, passed-on, too-long, printed}

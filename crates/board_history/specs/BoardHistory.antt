@@ -7,13 +7,13 @@ use mathlib.Core.List.{List}
 use mathlib.Core.Option.{Option, none, some}
 use Rattle.stores.specs.Plan.{Outcome}
 use Rattle.replies.specs.declared.Refusal.{Refusal}
-use Rattle.rules.specs.declared.Call.the-variants.{Get}
+use Rattle.index_rules.specs.declared.Call.the-variants.{Get}
 use Rattle.replies.specs.Replies.{Said}
-use Rattle.rules.specs.Step.{step, outcomeOf}
+use Rattle.index_rules.specs.Step.{step, outcomeOf}
 use Rattle.runs.specs.Map.{View, gets, puts, removes as takes, looks, mapSays}
 use Rattle.runs.specs.Run.{Machine, Point, start, finish, validRun, Reached, AgreesWithMap}
 use Rattle.runs.specs.BeforeMending.{mendsToCompletion, LookupsBeforeMending}
-use Rattle.history.specs.History.{viewOf, Request, Formatted}
+use Rattle.index_history.specs.History.{viewOf, Request, Formatted}
 use Rattle.board.specs.Jobs.{jobKey, jobTests, setJob, readJob, removeJob}
 use Rattle.board.specs.Print.{printYear}
 

@@ -11,9 +11,9 @@ use lib.Seq.{drop-length}
 use Rattle.stores.specs.Written.{Written}
 use Rattle.stores.proofs.Written.{written-none, written-within, written-append}
 use Rattle.replies.specs.declared.Answer.{Answer}
-use Rattle.rules.specs.declared.Call.{Call}
+use Rattle.index_rules.specs.declared.Call.{Call}
 use Rattle.replies.specs.Replies.{saidBy}
-use Rattle.rules.specs.Step.{step, Performed}
+use Rattle.index_rules.specs.Step.{step, Performed}
 use Rattle.text.specs.Parts.{linesOf}
 use Rattle.desk_text.specs.Line.{spoken, callOf}
 use Rattle.text.specs.Script.{NextLine}

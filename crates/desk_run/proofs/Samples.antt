@@ -7,7 +7,7 @@ use mathlib.Core.List.{List, [], _∷_, _++_}
 use lib.ListN.{replicate}
 use Rattle.stores.specs.Lists.{each}
 use Rattle.stores.specs.Store.{Store, store, apply}
-use Rattle.rules.proofs.Table.{computed}
+use Rattle.index_rules.proofs.Table.{computed}
 use Rattle.text.specs.Parts.{startedBy, parts, nonempty, linesOf, fieldsOf}
 use Rattle.text.specs.Number.{isDigit, allDigits, valueFrom, number, spelled, decimal}
 use Rattle.desk_text.specs.Line.{both, numbersOf, allowed, callWith, calledWith, callOfFields, callOf}

@@ -5,8 +5,8 @@ use mathlib.Core.List.{List, [], _∷_}
 use mathlib.Core.Option.{Option, none, some}
 use lib.Dec.{eqb, ltb}
 use Rattle.stores.specs.Lists.{pick}
-use Rattle.rules.specs.declared.Call.{Call}
-use Rattle.rules.specs.declared.Call.the-variants.{Format, Get, Put, Remove, Mend, List as ListCall}
+use Rattle.index_rules.specs.declared.Call.{Call}
+use Rattle.index_rules.specs.declared.Call.the-variants.{Format, Get, Put, Remove, Mend, List as ListCall}
 use Rattle.desk_text.specs.declared.line.Line.{Line}
 use Rattle.desk_text.specs.declared.line.Line.the-variants.{Called, Other}
 use Rattle.text.specs.Parts.{fieldsOf}

@@ -1,6 +1,6 @@
 // A line of a script: the call that it is, if it is one.
 use bytes::scan::find;
-use rules::Call;
+use index_rules::Call;
 use text::TAB;
 use text::number::Number;
 use text::number::read_number;

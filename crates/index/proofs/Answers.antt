@@ -19,33 +19,33 @@ use Rattle.replies.specs.declared.Answer.{Answer}
 use Rattle.replies.specs.Replies.{Said, refused, refuse, saidBy, tested, changed}
 use Rattle.replies.specs.Answered.{Answered}
 
-module _ (allowed : ℕ) (p : Plan Said) (before : List ℕ) (r : Answer) where
+module _ (allowance : ℕ) (p : Plan Said) (before : List ℕ) (r : Answer) where
   -- The plan's stores were made under the allowance, and the answer tells their number and the plan's reply.
-  pub answered-stores : (due : ℕ) (after : List ℕ) → Executed (p .due) allowed 0 before due after
-      → (saidBy (r .reply) ≡ pick (leb due allowed) (p .reply) (refused 7)) × (r .stores ≡ min allowed due)
-      → Answered (changed allowed p before) r after
+  pub answered-stores : (due : ℕ) (after : List ℕ) → Executed (p .due) allowance 0 before due after
+      → (saidBy (r .reply) ≡ pick (leb due allowance) (p .reply) (refused 7)) × (r .stores ≡ min allowance due)
+      → Answered (changed allowance p before) r after
   unfolding changed cut
   answered-stores due after e a =
       let n : due ≡ length (p .due) = e .count ∙ zero-add (length (p .due)) in
       record {
         reply = rw n at (a .0);
         stores = rw n at (a .1);
-        words = e .words ∙ rw (sub-zero allowed);
+        words = e .words ∙ rw (sub-zero allowance);
       }
 
 -- An answer with no store.
-pub answered-only : (allowed : ℕ) (s : Said) (before : List ℕ) (r : Answer) → saidBy (r .reply) ≡ s → r .stores ≡ 0
-    → Answered (changed allowed (reply-only s) before) r before
+pub answered-only : (allowance : ℕ) (s : Said) (before : List ℕ) (r : Answer) → saidBy (r .reply) ≡ s → r .stores ≡ 0
+    → Answered (changed allowance (reply-only s) before) r before
 unfolding changed cut exec apply
-answered-only allowed s before r e k =
+answered-only allowance s before r e k =
     record {
-      reply = rw (le-leb 0 allowed (omega arith)) e;
-      stores = rw (min-zero allowed) k;
-      words = executed-none allowed 0 before .words ∙ rw (sub-zero allowed);
+      reply = rw (le-leb 0 allowance (omega arith)) e;
+      stores = rw (min-zero allowance) k;
+      words = executed-none allowance 0 before .words ∙ rw (sub-zero allowance);
     }
 
 -- A refusal by the tests in front of a plan.
-pub answered-refused : (allowed : ℕ) (t : Option Refusal) (q : Refusal) (p : Plan Said) (before : List ℕ) (r : Answer)
-    → t ≡ some q → saidBy (r .reply) ≡ refuse q → r .stores ≡ 0 → Answered (changed allowed (tested t p) before) r before
+pub answered-refused : (allowance : ℕ) (t : Option Refusal) (q : Refusal) (p : Plan Said) (before : List ℕ) (r : Answer)
+    → t ≡ some q → saidBy (r .reply) ≡ refuse q → r .stores ≡ 0 → Answered (changed allowance (tested t p) before) r before
 unfolding tested
-answered-refused allowed t q p before r u e k = rw u (answered-only allowed (refuse q) before r e k)
+answered-refused allowance t q p before r u e k = rw u (answered-only allowance (refuse q) before r e k)

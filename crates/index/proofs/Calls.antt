@@ -16,29 +16,29 @@ use Rattle.stores.proofs.Stores.{executed-append}
 use Rattle.replies.specs.declared.Refusal.{Refusal}
 use Rattle.replies.specs.declared.Refusal.the-variants.{NoStore, Broken, BadShape, TooShort}
 use Rattle.replies.specs.declared.Answer.{Answer}
-use Rattle.rules.specs.declared.Call.the-variants.{Format, Get, Remove, Mend}
-use Rattle.rules.specs.Layout.{validShape, validHeader, wordsFor, header, depth, segments, segmentAddress, keyAddress, valueAddress}
-use Rattle.rules.specs.Scan.{leadersValid}
-use Rattle.rules.specs.Slots.{hit}
+use Rattle.index_rules.specs.declared.Call.the-variants.{Format, Get, Remove, Mend}
+use Rattle.index_rules.specs.Layout.{validShape, validHeader, wordsFor, header, depth, segments, segmentAddress, keyAddress, valueAddress}
+use Rattle.index_rules.specs.Scan.{leadersValid}
+use Rattle.index_rules.specs.Slots.{hit}
 use Rattle.replies.specs.Replies.{Said, done, absent, refused, refuse, saidBy, unless, tested, replied}
-use Rattle.rules.specs.Format.{clearing, formatTests, formatStores, format}
-use Rattle.rules.specs.Get.{getTests, valueAtHit, get}
-use Rattle.rules.specs.Put.{directoryTests, putTests}
-use Rattle.rules.specs.Remove.{removeTests, clearedAt, remove}
-use Rattle.rules.specs.Mend.{mendTests, mending, mend}
-use Rattle.rules.specs.Step.{effect, step, outcomeOf}
-use Rattle.directory.specs.declared.scan.Verdict.{Verdict}
-use Rattle.directory.specs.declared.scan.Verdict.the-variants.{Broken as BrokenVerdict, Unmended, Consistent}
-use Rattle.directory.specs.Scans.{verdictOf}
-use Rattle.directory.proofs.Answers.{verdict-unmended, verdict-consistent}
+use Rattle.index_rules.specs.Format.{clearing, formatTests, formatStores, format}
+use Rattle.index_rules.specs.Get.{getTests, valueAtHit, get}
+use Rattle.index_rules.specs.Put.{directoryTests, putTests}
+use Rattle.index_rules.specs.Remove.{removeTests, clearedAt, remove}
+use Rattle.index_rules.specs.Mend.{mendTests, mending, mend}
+use Rattle.index_rules.specs.Step.{effect, step, outcomeOf}
+use Rattle.index_directory.specs.declared.scan.Verdict.{Verdict}
+use Rattle.index_directory.specs.declared.scan.Verdict.the-variants.{Broken as BrokenVerdict, Unmended, Consistent}
+use Rattle.index_directory.specs.Scans.{verdictOf}
+use Rattle.index_directory.proofs.Answers.{verdict-unmended, verdict-consistent}
 use Rattle.replies.specs.Answered.{Answered}
-use Rattle.layout.specs.declared.place.Place.{Place}
+use Rattle.index_layout.specs.declared.place.Place.{Place}
 use Rattle.index.proofs.Places.{Stands}
 use Rattle.index.proofs.Answers.{answered-stores, answered-only, answered-refused}
 
 -- What an answer behind stores says, where `due` were due: the reply is the plan's, or 7.
-abbrev pub Told : (r : Answer) (reply : Said) (allowed due : ℕ) → Type 0
-Told r reply allowed due = (saidBy (r .reply) ≡ pick (leb due allowed) reply (refused 7)) × (r .stores ≡ min allowed due)
+abbrev pub AfterStores : (r : Answer) (reply : Said) (allowance due : ℕ) → Type 0
+AfterStores r reply allowance due = (saidBy (r .reply) ≡ pick (leb due allowance) reply (refused 7)) × (r .stores ≡ min allowance due)
 
 -- What an answer with no store says.
 abbrev pub Without : (r : Answer) (reply : Said) → Type 0
@@ -47,18 +47,18 @@ Without r reply = (saidBy (r .reply) ≡ reply) × (r .stores ≡ 0)
 -- ---- Format
 
 -- The stores of a format, one phase behind the other.
-pub format-stores : (D S allowed : ℕ) (a : List ℕ) (n₁ : ℕ) (a₁ : List ℕ) (n₂ : ℕ) (a₂ : List ℕ) (base n₃ : ℕ) (a₃ : List ℕ) (w n₄ : ℕ) (a₄ : List ℕ)
+pub format-stores : (D S allowance : ℕ) (a : List ℕ) (n₁ : ℕ) (a₁ : List ℕ) (n₂ : ℕ) (a₂ : List ℕ) (base n₃ : ℕ) (a₃ : List ℕ) (w n₄ : ℕ) (a₄ : List ℕ)
     → base ≡ segmentAddress D 0 → w ≡ header 0 D S
-    → Executed (store 0 0 ∷ []) allowed 0 a n₁ a₁
-    → Executed (store 1 0 ∷ []) allowed n₁ a₁ n₂ a₂
-    → Executed (clearing base) allowed n₂ a₂ n₃ a₃
-    → Executed (store 0 w ∷ []) allowed n₃ a₃ n₄ a₄
-    → Executed (formatStores D S) allowed 0 a n₄ a₄
+    → Executed (store 0 0 ∷ []) allowance 0 a n₁ a₁
+    → Executed (store 1 0 ∷ []) allowance n₁ a₁ n₂ a₂
+    → Executed (clearing base) allowance n₂ a₂ n₃ a₃
+    → Executed (store 0 w ∷ []) allowance n₃ a₃ n₄ a₄
+    → Executed (formatStores D S) allowance 0 a n₄ a₄
 unfolding formatStores
-format-stores D S allowed a n₁ a₁ n₂ a₂ base n₃ a₃ w n₄ a₄ b v e₁ e₂ e₃ e₄ =
-    executed-append (store 0 0 ∷ []) _ allowed 0 a n₁ a₁ n₄ a₄ e₁
-    (executed-append (store 1 0 ∷ []) _ allowed n₁ a₁ n₂ a₂ n₄ a₄ e₂
-    (executed-append (clearing (segmentAddress D 0)) (store 0 (header 0 D S) ∷ []) allowed n₂ a₂ n₃ a₃ n₄ a₄
+format-stores D S allowance a n₁ a₁ n₂ a₂ base n₃ a₃ w n₄ a₄ b v e₁ e₂ e₃ e₄ =
+    executed-append (store 0 0 ∷ []) _ allowance 0 a n₁ a₁ n₄ a₄ e₁
+    (executed-append (store 1 0 ∷ []) _ allowance n₁ a₁ n₂ a₂ n₄ a₄ e₂
+    (executed-append (clearing (segmentAddress D 0)) (store 0 (header 0 D S) ∷ []) allowance n₂ a₂ n₃ a₃ n₄ a₄
     (rw b at e₃) (rw v at e₄)))
 
 module _ (a : List ℕ) (D S allowance : ℕ) (r : Answer) where
@@ -73,7 +73,7 @@ module _ (a : List ℕ) (D S allowance : ℕ) (r : Answer) where
         answered-refused allowance (formatTests a D S) TooShort _ a r (rw (v, lt-leb (wordsFor D S) (length a) e)) (k .0) (k .1)
 
     pub format-done : wordsFor D S ≤ length a → (due : ℕ) (after : List ℕ) → Executed (formatStores D S) allowance 0 a due after
-        → Told r (done []) allowance due → Answered (outcomeOf a (Format D S allowance)) r after
+        → AfterStores r (done []) allowance due → Answered (outcomeOf a (Format D S allowance)) r after
     unfolding effect step format formatTests unless tested
     format-done e due after x k =
         rw (v, le-leb (wordsFor D S) (length a) e)
@@ -114,7 +114,7 @@ module _ (a : List ℕ) (key allowance : ℕ) (r : Answer) where
     remove-absent h k = rw (x .0, ← x .1, x .2 .base-is, h) (answered-only allowance absent a r (k .0) (k .1))
 
     pub remove-done : (j : ℕ) → hit a (p .base) (p .key) ≡ some j → (due : ℕ) (after : List ℕ)
-        → Executed (store (p .base + 2 * j) 0 ∷ []) allowance 0 a due after → Told r (done []) allowance due
+        → Executed (store (p .base + 2 * j) 0 ∷ []) allowance 0 a due after → AfterStores r (done []) allowance due
         → Answered (outcomeOf a (Remove key allowance)) r after
     unfolding effect step remove removeTests putTests tested clearedAt
     remove-done j h due after e k =
@@ -141,7 +141,7 @@ module _ (a : List ℕ) (allowance : ℕ) (r : Answer) where
     mend-broken e k = answered-refused allowance (mendTests a) Broken _ a r (rw (v, e)) (k .0) (k .1)
 
     pub mend-done : leadersValid a (depth a) (segments a) ≡ true → (due : ℕ) (after : List ℕ)
-        → Executed (mending a) allowance 0 a due after → Told r (done []) allowance due → Answered (outcomeOf a (Mend allowance)) r after
+        → Executed (mending a) allowance 0 a due after → AfterStores r (done []) allowance due → Answered (outcomeOf a (Mend allowance)) r after
     unfolding effect step mend mendTests unless tested
     mend-done e due after x k =
         rw (v, e) (answered-stores allowance (record { due = mending a; reply = done [] }) a r due after x k)

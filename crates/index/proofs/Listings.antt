@@ -12,24 +12,24 @@ use Rattle.stores.specs.Store.{word}
 use Rattle.replies.specs.declared.Refusal.{Refusal}
 use Rattle.replies.specs.declared.Refusal.the-variants.{NoStore, ShortList, NoLeader}
 use Rattle.replies.specs.declared.Answer.{Answer}
-use Rattle.rules.specs.Layout.{validHeader, depth, segments, entryAt, segmentOf, localDepth}
-use Rattle.rules.specs.Keys.{width}
-use Rattle.rules.specs.Scan.{leader, leadersValid}
+use Rattle.index_rules.specs.Layout.{validHeader, depth, segments, entryAt, segmentOf, localDepth}
+use Rattle.index_rules.specs.Keys.{width}
+use Rattle.index_rules.specs.Scan.{leader, leadersValid}
 use Rattle.replies.specs.Replies.{done, listed, refuse, unless}
 use Rattle.replies.specs.Writing.{Writing, behindTests}
 use Rattle.replies.specs.Answered.{Wrote}
-use Rattle.rules.specs.Put.{directoryTests}
-use Rattle.rules.specs.Listing.{blockRecords, records, wordsOf, listingTests, roomTest, listTests, list}
-use Rattle.rules.specs.ListBlock.{leads, recordsLed, following, followingLed, listBlockTests, listBlock}
-use Rattle.rules.proofs.BlockRecords.{recordsTo, records-end, records-grow, leader-depth, leader-segment, next-inside, next-behind, next-own, records-block, leads-at, leader-at, not-leads, aligned-leads, leads-aligned}
+use Rattle.index_rules.specs.Put.{directoryTests}
+use Rattle.index_rules.specs.Listing.{blockRecords, records, wordsOf, listingTests, roomTest, listTests, list}
+use Rattle.index_rules.specs.ListBlock.{leads, recordsLed, following, followingLed, listBlockTests, listBlock}
+use Rattle.index_laws.proofs.BlockRecords.{recordsTo, records-end, records-grow, leader-depth, leader-segment, next-inside, next-behind, next-own, records-block, leads-at, leader-at, not-leads, aligned-leads, leads-aligned}
 use Rattle.stores.specs.Written.{Written}
 use Rattle.stores.proofs.Written.{written-append, written-at-front}
-use Rattle.rules.proofs.Scan.{range-depth, consistent-in-range}
-use Rattle.rules.proofs.Listing.{words-append, listing-passed, listing-stops, listing-goes-on, room-passed, room-short}
-use Rattle.layout.specs.declared.header.Header.{Header}
-use Rattle.layout.specs.Headers.{Describes}
-use Rattle.layout.proofs.Shapes.{bounds}
-use Rattle.layout.proofs.Entries.{entry-word, mask-width}
+use Rattle.index_laws.proofs.Scan.{range-depth, consistent-in-range}
+use Rattle.index_laws.proofs.Listing.{words-append, listing-passed, listing-stops, listing-goes-on, room-passed, room-short}
+use Rattle.index_layout.specs.declared.header.Header.{Header}
+use Rattle.index_layout.specs.Headers.{Describes}
+use Rattle.index_layout.proofs.Shapes.{bounds}
+use Rattle.index_layout.proofs.Entries.{entry-word, mask-width}
 use Rattle.index.specs.declared.listing.BlockPlace.{BlockPlace}
 use Rattle.index.specs.declared.listing.Listable.{Listable}
 use Rattle.index.specs.declared.listing.Listable.the-variants.{As, Refused}
@@ -37,7 +37,7 @@ use Rattle.index.specs.declared.listing.BlockFound.{BlockFound}
 use Rattle.index.specs.declared.listing.BlockFound.the-variants.{At, NoLeader as NoBlock}
 use Rattle.index.specs.Blocks.{ListableRead, ListableBy, BlockRead, FoundAt, PlaceInside, placeRecords}
 use Rattle.index.proofs.Calls.{Without}
-use Rattle.layout.proofs.Places.{segment-fits}
+use Rattle.index_layout.proofs.Places.{segment-fits}
 
 -- ---- The tests in front
 

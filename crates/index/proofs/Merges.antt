@@ -9,26 +9,26 @@ use Rattle.replies.specs.declared.Refusal.the-variants.{NoBuddy, BothLive}
 use Rattle.replies.specs.declared.Answer.{Answer}
 use Rattle.replies.specs.Replies.{done, refused, refuse, tested}
 use Rattle.replies.specs.Answered.{Answered}
-use Rattle.rules.specs.declared.Call.the-variants.{Merge}
-use Rattle.rules.specs.Layout.{depth, segments}
-use Rattle.rules.specs.Keys.{index}
-use Rattle.rules.specs.Get.{keyEntry}
-use Rattle.rules.specs.Put.{putTests}
-use Rattle.rules.specs.Merge.{mergeTests, keyMerging, merge}
-use Rattle.rules.specs.Step.{effect, step, outcomeOf}
-use Rattle.rules.proofs.Keys.{index-lt}
-use Rattle.rules.proofs.Blocks.{consistent-blocks}
-use Rattle.rules.proofs.Doubling.{entry-of-key}
-use Rattle.rules.proofs.Put.{Passed, passed}
-use Rattle.rules.proofs.Merge.{left-below, right-below, no-buddy, both-live, both-pass, tests-stop, tests-past}
-use Rattle.layout.specs.declared.place.Place.{Place}
-use Rattle.layout.specs.Places.{KeyPlace}
-use Rattle.structure.specs.declared.merge.MergeAnswer.{MergeAnswer}
-use Rattle.structure.specs.declared.merge.MergeAnswer.the-variants.{Due, NoBuddy as NoBuddyAnswer, BothLive as BothLiveAnswer}
-use Rattle.structure.specs.Merges.{HalvesBelow, MergedBy}
+use Rattle.index_rules.specs.declared.Call.the-variants.{Merge}
+use Rattle.index_rules.specs.Layout.{depth, segments}
+use Rattle.index_rules.specs.Keys.{index}
+use Rattle.index_rules.specs.Get.{keyEntry}
+use Rattle.index_rules.specs.Put.{putTests}
+use Rattle.index_rules.specs.Merge.{mergeTests, keyMerging, merge}
+use Rattle.index_rules.specs.Step.{effect, step, outcomeOf}
+use Rattle.index_laws.proofs.Keys.{index-lt}
+use Rattle.index_laws.proofs.Blocks.{consistent-blocks}
+use Rattle.index_laws.proofs.Doubling.{entry-of-key}
+use Rattle.index_laws.proofs.Put.{Passed, passed}
+use Rattle.index_laws.proofs.Merge.{left-below, right-below, no-buddy, both-live, both-pass, tests-stop, tests-past}
+use Rattle.index_layout.specs.declared.place.Place.{Place}
+use Rattle.index_layout.specs.Places.{KeyPlace}
+use Rattle.index_structure.specs.declared.merge.MergeAnswer.{MergeAnswer}
+use Rattle.index_structure.specs.declared.merge.MergeAnswer.the-variants.{Due, NoBuddy as NoBuddyAnswer, BothLive as BothLiveAnswer}
+use Rattle.index_structure.specs.Merges.{HalvesBelow, MergedBy}
 use Rattle.index.proofs.Places.{Stands}
 use Rattle.index.proofs.Answers.{answered-stores, answered-refused}
-use Rattle.index.proofs.Calls.{Told, Without}
+use Rattle.index.proofs.Calls.{AfterStores, Without}
 
 -- Where the key's entry has a buddy, both name segments below S: the directory is consistent.
 pub halves-below : {p : Place} {a : List ℕ} {key : ℕ} → KeyPlace p a → putTests a key ≡ none → p .key ≡ key → HalvesBelow p a
@@ -64,7 +64,7 @@ module _ (a : List ℕ) (key allowance : ℕ) (r : Answer) where
         (answered-refused allowance (mergeTests a key) BothLive _ a r
         (tests-past tests ∙ both-live a (index key (depth a)) (keyEntry a key) (rw (x .1) at (m .0)) (rw (x .1) at (m .1))) (k .0) (k .1))
 
-    pub merge-done : (due : ℕ) (b : List ℕ) → MergedBy (Due due) p allowance a b → Told r (done []) allowance due → Answered (outcomeOf a (Merge key allowance)) r b
+    pub merge-done : (due : ℕ) (b : List ℕ) → MergedBy (Due due) p allowance a b → AfterStores r (done []) allowance due → Answered (outcomeOf a (Merge key allowance)) r b
     unfolding effect step merge tested
     merge-done due b m k =
         rw (tests-past tests ∙ both-pass a (index key (depth a)) (keyEntry a key) (rw (x .1) at (m .buddy)) (rw (x .1) at (m .apart)))

@@ -8,12 +8,12 @@ use lib.ListN.{length}
 use Rattle.replies.specs.declared.Answer.{Answer}
 use Rattle.replies.specs.Writing.{Writing}
 use Rattle.replies.specs.Answered.{Answered, Wrote}
-use Rattle.rules.specs.declared.Call.{Call}
-use Rattle.rules.specs.declared.Call.the-variants.{List as ListCall, ListBlock}
-use Rattle.rules.specs.Listing.{list}
-use Rattle.rules.specs.ListBlock.{listBlock}
-use Rattle.rules.specs.Step.{answers, effect, lists, step, outcomeOf, Performed}
-use Rattle.rules.proofs.Listing.{step-apart, list-array-kept}
+use Rattle.index_rules.specs.declared.Call.{Call}
+use Rattle.index_rules.specs.declared.Call.the-variants.{List as ListCall, ListBlock}
+use Rattle.index_rules.specs.Listing.{list}
+use Rattle.index_rules.specs.ListBlock.{listBlock}
+use Rattle.index_rules.specs.Step.{answers, effect, lists, step, outcomeOf, Performed}
+use Rattle.index_laws.proofs.Listing.{step-apart, list-array-kept}
 
 module _ (a l : List ℕ) (r : Answer) where
   -- What `format`, `get`, `put`, `remove`, `merge` and `mend` promise is a performed call, with any list array: they do not look at it, and

@@ -12,26 +12,26 @@ use types.Run.{OneOf, miss}
 use Rattle.replies.specs.declared.Refusal.{Refusal}
 use Rattle.replies.specs.declared.Refusal.the-variants.{NoStore, NoKey}
 use Rattle.replies.specs.Replies.{unless}
-use Rattle.rules.specs.Layout.{validHeader, depth, segments}
-use Rattle.rules.specs.Get.{keyEntry, keySegment, keyTests, entryTests, getTests}
-use Rattle.rules.specs.Put.{directoryTests, putTests, keyChoice}
-use Rattle.rules.specs.Slots.{choose, hit}
-use Rattle.rules.proofs.Keys.{index-shift}
-use Rattle.rules.proofs.Scan.{in-range}
-use Rattle.rules.proofs.Put.{passed, choice-found, choice-into, choice-full}
-use Rattle.rules.proofs.Range.{hit-slot}
-use Rattle.segment.specs.declared.probe.Hit.{Hit}
-use Rattle.segment.specs.declared.probe.Hit.the-variants.{At as HitAt, Absent}
-use Rattle.segment.proofs.choice.Choice
-use Rattle.segment.specs.declared.choice.Choice.{Choice as CodeChoice}
-use Rattle.segment.specs.declared.choice.Choice.the-variants.{Found, Into, Full}
-use Rattle.segment.specs.Answers.{hitOf, choiceOf}
-use Rattle.layout.specs.declared.place.Place.{Place}
-use Rattle.layout.specs.declared.place.Placed.{Placed}
-use Rattle.layout.specs.declared.place.Placed.the-variants.{At, Refused}
-use Rattle.layout.specs.Blocks.{shared}
-use Rattle.layout.specs.Places.{KeyPlace, blockOf, PlacedBy}
-use Rattle.layout.proofs.Places.{place-bounds, place-shared}
+use Rattle.index_rules.specs.Layout.{validHeader, depth, segments}
+use Rattle.index_rules.specs.Get.{keyEntry, keySegment, keyTests, entryTests, getTests}
+use Rattle.index_rules.specs.Put.{directoryTests, putTests, keyChoice}
+use Rattle.index_rules.specs.Slots.{choose, hit}
+use Rattle.index_laws.proofs.Keys.{index-shift}
+use Rattle.index_laws.proofs.Scan.{in-range}
+use Rattle.index_laws.proofs.Put.{passed, choice-found, choice-into, choice-full}
+use Rattle.index_laws.proofs.Range.{hit-slot}
+use Rattle.index_segment.specs.declared.probe.Hit.{Hit}
+use Rattle.index_segment.specs.declared.probe.Hit.the-variants.{At as HitAt, Absent}
+use Rattle.index_segment.proofs.choice.Choice
+use Rattle.index_segment.specs.declared.choice.Choice.{Choice as CodeChoice}
+use Rattle.index_segment.specs.declared.choice.Choice.the-variants.{Found, Into, Full}
+use Rattle.index_segment.specs.Answers.{hitOf, choiceOf}
+use Rattle.index_layout.specs.declared.place.Place.{Place}
+use Rattle.index_layout.specs.declared.place.Placed.{Placed}
+use Rattle.index_layout.specs.declared.place.Placed.the-variants.{At, Refused}
+use Rattle.index_layout.specs.Blocks.{shared}
+use Rattle.index_layout.specs.Places.{KeyPlace, blockOf, PlacedBy}
+use Rattle.index_layout.proofs.Places.{place-bounds, place-shared}
 
 module _ (a : List ℕ) (key : ℕ) (later : Option Refusal) where
   key-tests-no-store : validHeader a ≡ false → keyTests a key later ≡ some NoStore
@@ -119,10 +119,10 @@ module _ {p : Place} {a : List ℕ} (k : KeyPlace p a) (r : CodeChoice) (e : cho
   pub chosen-inside : (j : ℕ) → r ≡ Found j → (j < 64) × (p .base + 128 ≤ length a)
   chosen-inside j q = (hit-slot a (p .base) (p .key) j (chosen-hit j q), place-bounds k .whole)
 
-  pub not-chosen : OneOf (1 ∷ 2 ∷ []) (denote.Enum.Declared.tagOf Rattle.segment.proofs.choice.Choice.the-type r) → hit a (p .base) (p .key) ≡ none
+  pub not-chosen : OneOf (1 ∷ 2 ∷ []) (denote.Enum.Declared.tagOf Rattle.index_segment.proofs.choice.Choice.the-type r) → hit a (p .base) (p .key) ≡ none
   not-chosen t = rw (k .base-is) at (misses r t (sym e))
     where
-      misses : (q : CodeChoice) → OneOf (1 ∷ 2 ∷ []) (denote.Enum.Declared.tagOf Rattle.segment.proofs.choice.Choice.the-type q)
+      misses : (q : CodeChoice) → OneOf (1 ∷ 2 ∷ []) (denote.Enum.Declared.tagOf Rattle.index_segment.proofs.choice.Choice.the-type q)
           → keyChoice a (p .key) ≡ choiceOf q → hit a (keySegment a (p .key)) (p .key) ≡ none
       misses (Found j) t e = absurd (miss (1 ∷ 2 ∷ []) 0 Prim.tt t)
       misses (Into j) t e = choice-into a (p .key) j e .missing

@@ -19,25 +19,25 @@ use Rattle.replies.specs.declared.Refusal.{Refusal}
 use Rattle.replies.specs.declared.Refusal.the-variants.{TooDeep, NoSegment, CutOff}
 use Rattle.replies.specs.declared.Reply.the-variants.{Refused as RefusedReply}
 use Rattle.replies.specs.declared.Answer.{Answer}
-use Rattle.rules.specs.declared.Call.the-variants.{Put}
-use Rattle.rules.specs.Layout.{maxDepth, localDepth, valueAddress}
-use Rattle.rules.specs.Slots.{found, into, full, freeSegment}
+use Rattle.index_rules.specs.declared.Call.the-variants.{Put}
+use Rattle.index_rules.specs.Layout.{maxDepth, localDepth, valueAddress}
+use Rattle.index_rules.specs.Slots.{found, into, full, freeSegment}
 use Rattle.replies.specs.Replies.{Said, refuse, saidBy, changed}
-use Rattle.rules.specs.Get.{keyEntry, keySegment}
-use Rattle.rules.specs.Split.{splitting}
-use Rattle.rules.specs.Put.{putTests, keyChoice, unused, put}
-use Rattle.rules.specs.Step.{effect, step, outcomeOf}
-use Rattle.rules.proofs.Split.{Splittable, unused-falls}
-use Rattle.rules.proofs.Keys.{window-lt}
-use Rattle.rules.proofs.Range.{hit-slot}
-use Rattle.rules.proofs.Put.{put-refused, put-found, put-into, put-too-deep, put-no-segment, put-again, put-splittable, choice-found, choice-into}
-use Rattle.layout.specs.declared.place.Place.{Place}
-use Rattle.structure.specs.declared.split.SplitAnswer.{SplitAnswer}
-use Rattle.structure.specs.declared.split.SplitAnswer.the-variants.{Due, TooDeep as SplitTooDeep, NoSegment as SplitNoSegment}
-use Rattle.structure.specs.Splits.{SplitBy}
-use Rattle.segment.specs.declared.choice.Choice.{Choice}
-use Rattle.segment.specs.declared.choice.Choice.the-variants.{Found, Into, Full}
-use Rattle.segment.specs.Answers.{choiceOf}
+use Rattle.index_rules.specs.Get.{keyEntry, keySegment}
+use Rattle.index_rules.specs.Split.{splitting}
+use Rattle.index_rules.specs.Put.{putTests, keyChoice, unused, put}
+use Rattle.index_rules.specs.Step.{effect, step, outcomeOf}
+use Rattle.index_laws.proofs.Split.{Splittable, unused-falls}
+use Rattle.index_laws.proofs.Keys.{window-lt}
+use Rattle.index_laws.proofs.Range.{hit-slot}
+use Rattle.index_laws.proofs.Put.{put-refused, put-found, put-into, put-too-deep, put-no-segment, put-again, put-splittable, choice-found, choice-into}
+use Rattle.index_layout.specs.declared.place.Place.{Place}
+use Rattle.index_structure.specs.declared.split.SplitAnswer.{SplitAnswer}
+use Rattle.index_structure.specs.declared.split.SplitAnswer.the-variants.{Due, TooDeep as SplitTooDeep, NoSegment as SplitNoSegment}
+use Rattle.index_structure.specs.Splits.{SplitBy}
+use Rattle.index_segment.specs.declared.choice.Choice.{Choice}
+use Rattle.index_segment.specs.declared.choice.Choice.the-variants.{Found, Into, Full}
+use Rattle.index_segment.specs.Answers.{choiceOf}
 use Rattle.replies.specs.Answered.{Answered}
 use Rattle.index.specs.Slots.{valuePut, recordPut}
 use Rattle.index.proofs.Answers.{answered-only}
@@ -45,9 +45,9 @@ use Rattle.index.proofs.Places.{Stands}
 
 -- ---- Stores at a slot
 
-module _ (base slot w allowed due : ℕ) (a : List ℕ) (due′ : ℕ) (b : List ℕ) where
-  pub value-stored : Executed (store (base + 2 * slot + 1) w ∷ []) allowed due a due′ b
-      → Executed (store (valueAddress base slot) w ∷ []) allowed due a due′ b
+module _ (base slot w allowance due : ℕ) (a : List ℕ) (due′ : ℕ) (b : List ℕ) where
+  pub value-stored : Executed (store (base + 2 * slot + 1) w ∷ []) allowance due a due′ b
+      → Executed (store (valueAddress base slot) w ∷ []) allowance due a due′ b
   value-stored e = let q : base + 2 * slot + 1 ≡ valueAddress base slot = omega arith in rw q at e
 
 -- ---- A plan behind stores

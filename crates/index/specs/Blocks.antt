@@ -7,13 +7,13 @@ use mathlib.Core.List.{List}
 use mathlib.Core.Option.{none, some}
 use lib.ListN.{length}
 use Rattle.stores.specs.Lists.{each}
-use Rattle.rules.specs.Layout.{depth, maxDepth, entryAt, segmentOf, localDepth, segmentAddress}
-use Rattle.rules.specs.Keys.{blockBits}
-use Rattle.rules.specs.Listing.{Record, liveRecord, listingTests}
-use Rattle.rules.specs.ListBlock.{leads, behindLed}
-use Rattle.layout.specs.declared.header.Header.{Header}
-use Rattle.layout.specs.Headers.{Describes}
-use Rattle.layout.specs.Blocks.{shared}
+use Rattle.index_rules.specs.Layout.{depth, maxDepth, entryAt, segmentOf, localDepth, segmentAddress}
+use Rattle.index_rules.specs.Keys.{blockBits}
+use Rattle.index_rules.specs.Listing.{Record, liveRecord, listingTests}
+use Rattle.index_rules.specs.ListBlock.{leads, behindLed}
+use Rattle.index_layout.specs.declared.header.Header.{Header}
+use Rattle.index_layout.specs.Headers.{Describes}
+use Rattle.index_layout.specs.Blocks.{shared}
 use Rattle.index.specs.declared.listing.Listable.{Listable}
 use Rattle.index.specs.declared.listing.Listable.the-variants.{As, Refused}
 use Rattle.index.specs.declared.listing.BlockPlace.{BlockPlace}

@@ -5,8 +5,8 @@ use mathlib.Core.List.{[], _∷_}
 use Rattle.stores.specs.Store.{store}
 use Rattle.stores.specs.Plan.{Plan}
 use Rattle.replies.specs.Replies.{Said, done}
-use Rattle.rules.specs.Layout.{keyAddress, valueAddress}
-use Rattle.layout.specs.declared.place.Place.{Place}
+use Rattle.index_rules.specs.Layout.{keyAddress, valueAddress}
+use Rattle.index_layout.specs.declared.place.Place.{Place}
 
 -- The value alone, at slot j.
 abbrev pub valuePut : Place → (value j : ℕ) → Plan Said

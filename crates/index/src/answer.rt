@@ -8,15 +8,15 @@ ghost use lib.Dec.{leb};
 ghost use Rattle.stores.specs.Lists.{pick};
 ghost use Rattle.replies.specs.Replies.{saidBy, refused};
 
-// The answer of a call of which `due` stores were due and `allowed` could be made: the reply, or cut
+// The answer of a call of which `due` stores were due and `allowance` could be made: the reply, or cut
 // off where more were due than allowed.
-pub(crate) fn after_stores(reply: Reply, allowed: u32, due: u32) -> Answer
-    ensures { λ r. ⌜ (saidBy (r .reply) ≡ pick (leb due allowed) (saidBy reply) (refused 7)) × (r .stores ≡ min allowed due) ⌝ }
+pub(crate) fn after_stores(reply: Reply, allowance: u32, due: u32) -> Answer
+    ensures { λ r. ⌜ (saidBy (r .reply) ≡ pick (leb due allowance) (saidBy reply) (refused 7)) × (r .stores ≡ min allowance due) ⌝ }
 {
-    if allowed < due {
+    if allowance < due {
         return Answer {
             reply: Reply::Refused(Refusal::CutOff),
-            stores: allowed,
+            stores: allowance,
         };
     }
     Answer { reply, stores: due }

@@ -1,14 +1,14 @@
 // The tests in front of the calls with a key, in document 01's order, and the key's place behind them.
-use directory::scan::Verdict;
-use directory::scan::scan;
-use layout::header::HeaderRead;
-use layout::header::read_header;
-use layout::place::Placed;
-use layout::place::place_of;
+use index_directory::scan::Verdict;
+use index_directory::scan::scan;
+use index_layout::header::HeaderRead;
+use index_layout::header::read_header;
+use index_layout::place::Placed;
+use index_layout::place::place_of;
 use replies::Refusal;
-ghost use Rattle.rules.specs.Get.{getTests};
-ghost use Rattle.rules.specs.Put.{putTests};
-ghost use Rattle.layout.specs.Places.{PlacedBy};
+ghost use Rattle.index_rules.specs.Get.{getTests};
+ghost use Rattle.index_rules.specs.Put.{putTests};
+ghost use Rattle.index_layout.specs.Places.{PlacedBy};
 
 // For get: 1, 2, and 3 for the key's own entry.
 pub(crate) fn place_to_read(words: &[u64], key: u64) -> Placed

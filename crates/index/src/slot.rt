@@ -1,23 +1,23 @@
 // A slot of a key's segment: which has the key, which a put takes, and what is stored there.
 use crate::answer::after_stores;
-use layout::SEGMENT_WORDS;
-use layout::key::Block;
-use layout::place::Place;
+use index_layout::SEGMENT_WORDS;
+use index_layout::key::Block;
+use index_layout::place::Place;
+use index_segment::choice::Choice;
+use index_segment::choice::choose;
+use index_segment::probe::Hit;
+use index_segment::probe::find;
 use replies::Answer;
 use replies::Reply;
-use segment::choice::Choice;
-use segment::choice::choose;
-use segment::probe::Hit;
-use segment::probe::find;
 use stores::store_word;
 ghost use mathlib.Core.Path.{_≡_};
 ghost use Prim.Native.Nat.{_+_, _≤_, _<_};
 ghost use lib.ListN.{length};
-ghost use Rattle.rules.specs.Slots.{hit};
-ghost use Rattle.rules.specs.Put.{keyChoice};
+ghost use Rattle.index_rules.specs.Slots.{hit};
+ghost use Rattle.index_rules.specs.Put.{keyChoice};
 ghost use Rattle.replies.specs.Replies.{changed};
-ghost use Rattle.layout.specs.Places.{KeyPlace};
-ghost use Rattle.segment.specs.Answers.{hitOf, choiceOf};
+ghost use Rattle.index_layout.specs.Places.{KeyPlace};
+ghost use Rattle.index_segment.specs.Answers.{hitOf, choiceOf};
 ghost use Rattle.replies.specs.Answered.{Answered};
 ghost use Rattle.index.specs.Slots.{valuePut, recordPut};
 

@@ -6,8 +6,8 @@ use Prim.Native.Nat.{ℕ, _<_}
 use native.Mathlib.Omega.{arith}
 use Rattle.stores.specs.Plan.{Outcome}
 use Rattle.replies.specs.Replies.{Said, done, listed, absent, refused}
-use Rattle.rules.specs.Full.{ForWantOfSpace}
-use Rattle.rules.proofs.Full.{put-for-want-of-space}
+use Rattle.index_laws.specs.Full.{ForWantOfSpace}
+use Rattle.index_laws.proofs.Full.{put-for-want-of-space}
 use Rattle.board.proofs.Full.{set-for-want-of-space}
 use Rattle.page_index.specs.declared.PageIndexReply.{PageIndexReply}
 use Rattle.page_index.specs.Told.{Told, codeOf}

@@ -1,5 +1,5 @@
 -- The promise of each C function of the index, and of each of the board's on one job, is a performed call. So a chain of C calls is
--- a chain of performed calls, and the history rule over those (`performed-history-rule` of `history`) speaks of it.
+-- a chain of performed calls, and the history rule over those (`performed-history-rule` of `index_history`) speaks of it.
 -- Assumes nothing.
 use Prim.Native.Nat.{ℕ}
 use mathlib.Core.Path.{_≡_, refl, sym, ap, _∙_}
@@ -9,13 +9,13 @@ use mathlib.Core.Option.{none}
 use lib.ListN.{length}
 use Rattle.stores.specs.Plan.{Outcome}
 use Rattle.replies.specs.declared.Answer.{Answer}
-use Rattle.rules.specs.declared.Call.{Call}
-use Rattle.rules.specs.declared.Call.the-variants.{List as ListCall, ListBlock}
+use Rattle.index_rules.specs.declared.Call.{Call}
+use Rattle.index_rules.specs.declared.Call.the-variants.{List as ListCall, ListBlock}
 use Rattle.replies.specs.Replies.{Said, saidBy}
-use Rattle.rules.specs.Listing.{list}
-use Rattle.rules.specs.Step.{effect, lists, step, outcomeOf}
+use Rattle.index_rules.specs.Listing.{list}
+use Rattle.index_rules.specs.Step.{effect, lists, step, outcomeOf}
 use Rattle.replies.proofs.Sayable.{Sayable}
-use Rattle.rules.proofs.Said.{step-sayable}
+use Rattle.index_laws.proofs.Said.{step-sayable}
 use Rattle.index.proofs.Performs.{answered-performed, list-performed, list-block-performed}
 use Rattle.board.specs.Jobs.{jobKey, jobTests, behind, onJob}
 use Rattle.page_index.specs.declared.PageIndexReply.{PageIndexReply}

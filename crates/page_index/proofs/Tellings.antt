@@ -13,7 +13,7 @@ use Rattle.stores.specs.Plan.{Outcome}
 use Rattle.replies.specs.declared.Answer.{Answer}
 use Rattle.replies.specs.Replies.{Said, saidBy}
 use Rattle.replies.specs.Writing.{Writing}
-use Rattle.rules.specs.ListBlock.{listBlock}
+use Rattle.index_rules.specs.ListBlock.{listBlock}
 use Rattle.replies.specs.Answered.{Answered, Wrote}
 use Rattle.page_index.specs.declared.PageIndexReply.{PageIndexReply}
 use Rattle.page_index.specs.Told.{Tells, Told, ToldWriting, ToldBlock, codeOf, valueOf, nextSaid}

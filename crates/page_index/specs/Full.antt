@@ -4,9 +4,9 @@
 use Prim.Native.Nat.{ℕ}
 use mathlib.Core.Path.{_≡_}
 use mathlib.Core.List.{List}
-use Rattle.rules.specs.declared.Call.the-variants.{Put}
-use Rattle.rules.specs.Full.{TooDeepAt, NoSegmentAt}
-use Rattle.rules.specs.Step.{outcomeOf}
+use Rattle.index_rules.specs.declared.Call.the-variants.{Put}
+use Rattle.index_laws.specs.Full.{TooDeepAt, NoSegmentAt}
+use Rattle.index_rules.specs.Step.{outcomeOf}
 use Rattle.board.specs.Jobs.{jobKey, setJob}
 use Rattle.page_index.specs.declared.PageIndexReply.{PageIndexReply}
 use Rattle.page_index.specs.Told.{Told}

@@ -8,10 +8,10 @@ use Rattle.stores.specs.Plan.{Outcome}
 use Rattle.stores.specs.Written.{atFront}
 use Rattle.replies.specs.declared.Answer.{Answer}
 use Rattle.replies.specs.Replies.{Said, done, listed, absent, refused, saidBy}
-use Rattle.rules.specs.declared.Call.{Call}
-use Rattle.rules.specs.Step.{Performed}
+use Rattle.index_rules.specs.declared.Call.{Call}
+use Rattle.index_rules.specs.Step.{Performed}
 use Rattle.replies.specs.Writing.{Writing}
-use Rattle.rules.specs.ListBlock.{listBlock}
+use Rattle.index_rules.specs.ListBlock.{listBlock}
 use Rattle.replies.specs.declared.Following.the-variants.{Next, Last}
 use Rattle.page_index.specs.declared.PageIndexReply.{PageIndexReply}
 

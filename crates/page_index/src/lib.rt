@@ -8,10 +8,10 @@ use replies::Reply;
 use replies::refusal_number;
 ghost use mathlib.Core.Path.{_≡_};
 ghost use lib.ListN.{length};
-ghost use Rattle.rules.specs.declared.Call.the-variants.{Format, Get, Put, Remove, Merge, Mend};
+ghost use Rattle.index_rules.specs.declared.Call.the-variants.{Format, Get, Put, Remove, Merge, Mend};
 ghost use Rattle.replies.specs.Replies.{saidBy};
-ghost use Rattle.rules.specs.Listing.{list as listing};
-ghost use Rattle.rules.specs.Step.{outcomeOf};
+ghost use Rattle.index_rules.specs.Listing.{list as listing};
+ghost use Rattle.index_rules.specs.Step.{outcomeOf};
 ghost use Rattle.page_index.specs.Told.{Tells, Told, ToldWriting, ToldBlock, nextSaid};
 
 // The code of the reply absent; done is 0, a refusal has its number.

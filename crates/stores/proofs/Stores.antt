@@ -61,19 +61,19 @@ exec-append ss tt n a = rw (take-append ss tt n) (apply-append (take n ss) (take
 
 -- ---- The promise of code that stores
 
-pub executed-none : (allowed due : ℕ) (a : List ℕ) → Executed [] allowed due a due a
+pub executed-none : (allowance due : ℕ) (a : List ℕ) → Executed [] allowance due a due a
 unfolding exec apply
-executed-none allowed due a = record { count = omega arith; words = rw (take-nil {A = Store} (allowed - due)) }
+executed-none allowance due a = record { count = omega arith; words = rw (take-nil {A = Store} (allowance - due)) }
 
-pub executed-append : (ss tt : List Store) (allowed due : ℕ) (a : List ℕ) (due₁ : ℕ) (a₁ : List ℕ) (due₂ : ℕ) (a₂ : List ℕ)
-    → Executed ss allowed due a due₁ a₁ → Executed tt allowed due₁ a₁ due₂ a₂ → Executed (ss ++ tt) allowed due a due₂ a₂
-executed-append ss tt allowed due a due₁ a₁ due₂ a₂ p q =
+pub executed-append : (ss tt : List Store) (allowance due : ℕ) (a : List ℕ) (due₁ : ℕ) (a₁ : List ℕ) (due₂ : ℕ) (a₂ : List ℕ)
+    → Executed ss allowance due a due₁ a₁ → Executed tt allowance due₁ a₁ due₂ a₂ → Executed (ss ++ tt) allowance due a due₂ a₂
+executed-append ss tt allowance due a due₁ a₁ due₂ a₂ p q =
     let c₁ : due₁ ≡ due + length ss = p .count in
     let c₂ : due₂ ≡ due₁ + length tt = q .count in
-    let left : allowed - due₁ ≡ allowed - due - length ss = omega arith in
+    let left : allowance - due₁ ≡ allowance - due - length ss = omega arith in
     record {
       count = rw (length-append ss tt) (omega arith);
-      words = q .words ∙ rw (p .words, left) (sym (exec-append ss tt (allowed - due) a));
+      words = q .words ∙ rw (p .words, left) (sym (exec-append ss tt (allowance - due) a));
     }
 
 -- ---- Reads after stores

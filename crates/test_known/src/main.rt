@@ -3,29 +3,7 @@
 // model. The states are the rows of the file `stdin`, whose head says what each letter is for; k alone stands here.
 mod reading;
 
-use index_compare::arrays::ARRAYS;
-use index_compare::arrays::Arrays;
-use index_compare::arrays::INDEX;
-use index_compare::arrays::LISTED;
-use index_compare::arrays::MODEL;
-use index_compare::arrays::SAVED;
-use index_compare::arrays::TALLY;
-use index_compare::compare::compare;
-use index_compare::compare::count_call;
-use index_compare::compare::make;
-use index_compare::report::write_table;
-use index_compare::tally::begin_case;
-use index_compare::tally::expect;
-use index_model::Call;
-use index_model::DONE;
-use index_model::Outcome;
-use index_model::TOO_SHORT;
 use libc::STDIN_FILENO;
-use model_array::array::words_before;
-use model_array::words::CELLS;
-use model_array::words::Cells;
-use model_array::words::set_word;
-use model_array::words::word_at;
 use reading::AT_LETTER;
 use reading::COLUMNS;
 use reading::DUE;
@@ -33,6 +11,28 @@ use reading::Place;
 use reading::Row;
 use reading::take_in_line;
 use std::num::wrapping_add_u64;
+use test_array::array::words_before;
+use test_array::words::CELLS;
+use test_array::words::Cells;
+use test_array::words::set_word;
+use test_array::words::word_at;
+use test_compare::arrays::ARRAYS;
+use test_compare::arrays::Arrays;
+use test_compare::arrays::INDEX;
+use test_compare::arrays::LISTED;
+use test_compare::arrays::MODEL;
+use test_compare::arrays::SAVED;
+use test_compare::arrays::TALLY;
+use test_compare::compare::compare;
+use test_compare::compare::count_call;
+use test_compare::compare::make;
+use test_compare::report::write_table;
+use test_compare::tally::begin_case;
+use test_compare::tally::expect;
+use test_model::Call;
+use test_model::DONE;
+use test_model::Outcome;
+use test_model::TOO_SHORT;
 
 // One byte more than the rows have at most.
 const TEXT_BYTES: usize = 16385;

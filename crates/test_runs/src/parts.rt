@@ -1,18 +1,18 @@
 // The listing in parts: lists of one block with 128 words each, joined from index 0 on, are the full listing
 // (document 02, wish 7).
-use index_compare::arrays::Arrays;
-use index_compare::arrays::LISTED;
-use index_compare::compare::compare;
-use index_compare::lists::is_list_of;
-use index_compare::tally::expect;
-use index_model::Call;
-use index_model::DONE;
-use model_array::words::CELLS;
-use model_array::words::Cells;
-use model_array::words::WORDS;
-use model_array::words::append;
-use model_array::words::word_at;
-use random_calls::runs::PART_WORDS;
+use test_array::words::CELLS;
+use test_array::words::Cells;
+use test_array::words::WORDS;
+use test_array::words::append;
+use test_array::words::word_at;
+use test_compare::arrays::Arrays;
+use test_compare::arrays::LISTED;
+use test_compare::compare::compare;
+use test_compare::lists::is_list_of;
+use test_compare::tally::expect;
+use test_model::Call;
+use test_model::DONE;
+use test_random::runs::PART_WORDS;
 
 // The most blocks of a run, at depth 6.
 const MOST_BLOCKS: u32 = 64;

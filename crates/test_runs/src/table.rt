@@ -1,18 +1,18 @@
 // The plain table of document 01, in an array of its own, with an entry for each key that the run uses.
 // It is told what was done and never sees the index's array.
-use index_compare::arrays::Arrays;
-use index_compare::arrays::INDEX;
-use index_compare::arrays::TABLE;
-use index_compare::tally::LOOKUPS;
-use index_compare::tally::count;
-use index_compare::tally::expect;
-use index_model::Call;
-use model_array::words::Cells;
-use model_array::words::set_word;
-use model_array::words::word_at;
-use random_calls::runs::ENTRY_WORDS;
-use random_calls::runs::KEYS;
 use replies::Reply;
+use test_array::words::Cells;
+use test_array::words::set_word;
+use test_array::words::word_at;
+use test_compare::arrays::Arrays;
+use test_compare::arrays::INDEX;
+use test_compare::arrays::TABLE;
+use test_compare::tally::LOOKUPS;
+use test_compare::tally::count;
+use test_compare::tally::expect;
+use test_model::Call;
+use test_random::runs::ENTRY_WORDS;
+use test_random::runs::KEYS;
 
 // Tells the table of a done call on the key of an entry: a put sets its value, whether it had one or not,
 // a remove takes it away, any other call leaves it.

@@ -4,26 +4,26 @@
 // sixty-four records and has all 4,096 entries to store. Both are run with every allowance around the
 // borders of their phases. The block of the sixty-four keys is the largest that a list of one block meets:
 // it takes 128 words.
-use index_compare::arrays::ARRAYS;
-use index_compare::arrays::Arrays;
-use index_compare::arrays::INDEX;
-use index_compare::arrays::MODEL;
-use index_compare::arrays::SAVED;
-use index_compare::arrays::TALLY;
-use index_compare::compare::compare;
-use index_compare::report::write_table;
-use index_compare::tally::begin_case;
-use index_compare::tally::expect;
-use index_model::ALL_STORES;
-use index_model::Call;
-use index_model::DONE;
-use index_model::SHORT_LIST;
-use index_model::with_allowance;
-use model_array::array::power;
-use model_array::route::unfolded;
-use model_array::words::CELLS;
 use std::num::wrapping_add_u32;
 use std::num::wrapping_add_u64;
+use test_array::array::power;
+use test_array::route::unfolded;
+use test_array::words::CELLS;
+use test_compare::arrays::ARRAYS;
+use test_compare::arrays::Arrays;
+use test_compare::arrays::INDEX;
+use test_compare::arrays::MODEL;
+use test_compare::arrays::SAVED;
+use test_compare::arrays::TALLY;
+use test_compare::compare::compare;
+use test_compare::report::write_table;
+use test_compare::tally::begin_case;
+use test_compare::tally::expect;
+use test_model::ALL_STORES;
+use test_model::Call;
+use test_model::DONE;
+use test_model::SHORT_LIST;
+use test_model::with_allowance;
 
 // The words for D = 12, S = 13.
 const WORST_WORDS: usize = 9856;

@@ -3,7 +3,7 @@
 //!     desk_outputs            runs the script of standard input
 //!     desk_outputs FOLDER     runs each FOLDER/*.in and writes its output to FOLDER/*.out
 //!
-//! The outputs in crates/desk_test/data were written by it and never by the program under test.
+//! The outputs in crates/test_desk/data were written by it and never by the program under test.
 //! SCRIPTS.md says what each script there is for.
 // The desk program makes no merge and no listing of one block.
 #[allow(dead_code)]

@@ -6,14 +6,14 @@ use native.Mathlib.Omega.{arith}
 use borrow.Author.Needs.{needs}
 use borrow.Fn.Kinds.{In}
 use borrow.Fn.PlainCycle.{Measures, is, falls, and}
-use Rattle.rules.specs.Slots.{full}
-use Rattle.rules.specs.Put.{putTests, keyChoice, unused}
+use Rattle.index_rules.specs.Slots.{full}
+use Rattle.index_rules.specs.Put.{putTests, keyChoice, unused}
 use Rattle.index.proofs.Places.{Stands, stands, refused-by}
 use Rattle.index.proofs.Puts.{choice-full-read, found-slot, into-slot, answers-found, answers-into, answers-refused, answers-too-deep, answers-no-segment, split-of, answers-cut, put-falls, rest-allowed, answers-again}
 use Rattle.index.proofs.put.Reads as put
 use Rattle.index.proofs.put.Kinds as put-kinds
 use Rattle.index.proofs.+put.Lts-put as put-lts
-use Rattle.structure.proofs.split.split.Reads as split-reads
+use Rattle.index_structure.proofs.split.split.Reads as split-reads
 use Rattle.replies.proofs.without_store.Reads as without-store-reads
 use Rattle.index.proofs.place.place_to_change.Reads as place-to-change-reads
 use Rattle.index.proofs.slot.choose_at.Reads as choose-at-reads

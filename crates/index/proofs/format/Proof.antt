@@ -5,7 +5,7 @@ use native.Mathlib.Omega.{arith}
 use borrow.Author.Tests.{not-true, not-false}
 use mathlib.Core.Path.{sym, ap, _∙_}
 use Rattle.replies.specs.Replies.{saidBy}
-use Rattle.layout.proofs.Shapes.{shape}
+use Rattle.index_layout.proofs.Shapes.{shape}
 use Rattle.index.proofs.Calls.{format-bad-shape, format-too-short, format-done}
 use Rattle.index.proofs.format.Statement.{statement}
 use Rattle.index.proofs.format.Tie as tie

@@ -3,7 +3,7 @@
 use native.Mathlib.Omega.{arith}
 use mathlib.Core.Path.{ap}
 use Rattle.replies.specs.Replies.{saidBy}
-use Rattle.layout.proofs.Places.{place-bounds}
+use Rattle.index_layout.proofs.Places.{place-bounds}
 use Rattle.index.proofs.Places.{stands, refused-by, found-hit, absent-hit, found-inside}
 use Rattle.index.proofs.Calls.{get-refused, get-absent, get-found}
 use borrow.Author.Needs.{needs}

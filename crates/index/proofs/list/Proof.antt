@@ -5,7 +5,7 @@ use mathlib.Core.Path.{ap, _∙_}
 use mathlib.Core.List.{[], _∷_}
 use Prim.Native.Nat.{ℕ}
 use Rattle.replies.specs.Replies.{saidBy, done}
-use Rattle.rules.proofs.Listing.{listing-passed}
+use Rattle.index_laws.proofs.Listing.{listing-passed}
 use Rattle.index.proofs.Listings.{listable-as, listable-refused, list-refused, list-short, list-done}
 use Rattle.index.proofs.list.Statement.{statement}
 use Rattle.index.proofs.list.Tie as tie

@@ -6,9 +6,9 @@ use mathlib.Core.Path.{ap, ap₂, _∙_}
 use mathlib.Core.List.{List}
 use lib.ListN.{length}
 use Rattle.replies.specs.Replies.{saidBy, listed}
-use Rattle.rules.specs.Listing.{Record}
-use Rattle.rules.proofs.Listing.{listing-passed}
-use Rattle.layout.proofs.Shapes.{bounds}
+use Rattle.index_rules.specs.Listing.{Record}
+use Rattle.index_laws.proofs.Listing.{listing-passed}
+use Rattle.index_layout.proofs.Shapes.{bounds}
 use Rattle.index.proofs.Listings.{listable-as, listable-refused, found-at, found-none, place-inside, place-records, following-read, block-refused, block-no-leader, block-short, block-done}
 use Rattle.index.proofs.list_block.Statement.{statement}
 use Rattle.index.proofs.list_block.Tie as tie

@@ -5,8 +5,8 @@ use native.Mathlib.Omega.{arith}
 use mathlib.Core.Path.{ap}
 use mathlib.Core.Logic.{⊎-elim}
 use Rattle.replies.specs.Replies.{saidBy}
-use Rattle.layout.proofs.Answers.{header-valid, header-not-valid}
-use Rattle.directory.proofs.Answers.{verdict-broken}
+use Rattle.index_layout.proofs.Answers.{header-valid, header-not-valid}
+use Rattle.index_directory.proofs.Answers.{verdict-broken}
 use Rattle.index.proofs.Calls.{verdict-valid, mend-no-store, mend-broken, mend-done}
 use Rattle.index.proofs.mend.Statement.{statement}
 use Rattle.index.proofs.mend.Tie as tie

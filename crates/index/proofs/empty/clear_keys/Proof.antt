@@ -9,7 +9,7 @@ use lib.ListN.{length}
 use Rattle.stores.specs.Lists.{each}
 use Rattle.stores.specs.Store.{Store, store}
 use Rattle.stores.specs.Executed.{Executed}
-use Rattle.rules.specs.Layout.{keyAddress}
+use Rattle.index_rules.specs.Layout.{keyAddress}
 use Rattle.stores.proofs.Loops.{before-loop, after-turn, executed-length}
 use Rattle.index.proofs.empty.clear_keys.Statement.{statement}
 use Rattle.index.proofs.empty.clear_keys.Tie as tie
@@ -19,14 +19,14 @@ abbrev cleared : (base j : ℕ) → List Store
 cleared base j = store (keyAddress base j) 0 ∷ []
 
 abbrev Inv-loop : tie.InvT-loop
-Inv-loop words₀ base allowed due total₀ slot₀ words total slot =
+Inv-loop words₀ base allowance due due₁ slot₀ words due′ slot =
     (slot ≤ 64)
-    × (total ≡ due + slot)
+    × (due′ ≡ due + slot)
     × (length words ≡ length words₀)
-    × Executed (each (cleared base) slot) allowed due words₀ total words
+    × Executed (each (cleared base) slot) allowance due words₀ due′ words
 
 abbrev μ-loop : tie.MeasureT-loop
-μ-loop words₀ base allowed due total₀ slot₀ words total slot = 64 - slot
+μ-loop words₀ base allowance due due₁ slot₀ words due′ slot = 64 - slot
 
 loop-holds : tie.Need-loop-holds Inv-loop μ-loop
 loop-holds c = (omega arith, omega arith, search needs, before-loop (cleared (c .before .args .base)) _ _ _)

@@ -5,9 +5,9 @@ use native.Mathlib.Omega.{arith}
 use Prim.Native.Nat.{_+_, _*_}
 use Rattle.stores.specs.Store.{store}
 use Rattle.stores.proofs.Lists.{length-each-ones}
-use Rattle.layout.proofs.Shapes.{shape}
+use Rattle.index_layout.proofs.Shapes.{shape}
 use Rattle.stores.proofs.Loops.{executed-length}
-use Rattle.layout.proofs.Places.{first-segment-fits}
+use Rattle.index_layout.proofs.Places.{first-segment-fits}
 use Rattle.index.proofs.Calls.{format-stores}
 use Rattle.index.proofs.empty.store_empty.Statement.{statement}
 use Rattle.index.proofs.empty.store_empty.Tie as tie

@@ -4,7 +4,7 @@ use borrow.Author.Needs.{needs}
 use native.Mathlib.Omega.{arith}
 use mathlib.Core.Path.{ap, _∙_}
 use lib.ListN.{length}
-use Rattle.segment.proofs.Parts.{span, part-length, part-records}
+use Rattle.index_segment.proofs.Parts.{span, part-length, part-records}
 use Rattle.index.proofs.listing.count_block.Statement.{statement}
 use Rattle.index.proofs.listing.count_block.Tie as tie
 

@@ -5,11 +5,11 @@ use native.Mathlib.Omega.{arith}
 use mathlib.Core.Path.{_≡_}
 use Prim.Native.Nat.{_-_, _*_, _≤_}
 use lib.ListN.{length}
-use Rattle.rules.specs.Layout.{depth}
-use Rattle.rules.specs.Scan.{leader}
-use Rattle.rules.proofs.Scan.{leader-zero}
-use Rattle.rules.proofs.BlockRecords.{recordsTo, records-start, records-end}
-use Rattle.layout.proofs.Shapes.{bounds}
+use Rattle.index_rules.specs.Layout.{depth}
+use Rattle.index_rules.specs.Scan.{leader}
+use Rattle.index_laws.proofs.Scan.{leader-zero}
+use Rattle.index_laws.proofs.BlockRecords.{recordsTo, records-start, records-end}
+use Rattle.index_layout.proofs.Shapes.{bounds}
 use Rattle.index.proofs.Listings.{Turn, turn, loop-leads, count-turn}
 use Rattle.index.proofs.listing.count_records.Statement.{statement}
 use Rattle.index.proofs.listing.count_records.Tie as tie

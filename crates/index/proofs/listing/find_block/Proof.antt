@@ -2,9 +2,9 @@
 -- Assumes nothing.
 use borrow.Author.Needs.{needs}
 use native.Mathlib.Omega.{arith}
-use Rattle.rules.proofs.Keys.{width-pos}
-use Rattle.rules.proofs.Listing.{listing-passed}
-use Rattle.layout.proofs.Shapes.{bounds}
+use Rattle.index_laws.proofs.Keys.{width-pos}
+use Rattle.index_laws.proofs.Listing.{listing-passed}
+use Rattle.index_layout.proofs.Shapes.{bounds}
 use Rattle.index.proofs.Listings.{leads-not-behind, entry-low, leads-here, leads-not-inside}
 use Rattle.index.proofs.listing.find_block.Statement.{statement}
 use Rattle.index.proofs.listing.find_block.Tie as tie

@@ -2,7 +2,7 @@
 -- Assumes nothing.
 use borrow.Author.Tests.{lt-ltb, le-ltb}
 use native.Mathlib.Omega.{arith}
-use Rattle.rules.specs.ListBlock.{following}
+use Rattle.index_rules.specs.ListBlock.{following}
 use Rattle.index.proofs.listing.following.Statement.{statement}
 use Rattle.index.proofs.listing.following.Tie as tie
 

@@ -2,7 +2,7 @@
 -- Assumes nothing.
 use borrow.Author.Needs.{needs}
 use mathlib.Core.Path.{sym, _∙_}
-use Rattle.layout.proofs.Answers.{header-valid, header-not-valid}
+use Rattle.index_layout.proofs.Answers.{header-valid, header-not-valid}
 use Rattle.index.proofs.Listings.{front-no-store, front-directory}
 use Rattle.index.proofs.listing.header_to_list.Statement.{statement}
 use Rattle.index.proofs.listing.header_to_list.Tie as tie

@@ -2,9 +2,9 @@
 -- Assumes nothing.
 use borrow.Author.Needs.{needs}
 use native.Mathlib.Omega.{arith}
-use Rattle.rules.proofs.Keys.{width-le}
-use Rattle.layout.proofs.Shapes.{bounds}
-use Rattle.layout.proofs.Entries.{entry-word}
+use Rattle.index_laws.proofs.Keys.{width-le}
+use Rattle.index_layout.proofs.Shapes.{bounds}
+use Rattle.index_layout.proofs.Entries.{entry-word}
 use Rattle.index.proofs.Listings.{leader-below, leader-bounds}
 use Rattle.index.proofs.listing.read_block.Statement.{statement}
 use Rattle.index.proofs.listing.read_block.Tie as tie

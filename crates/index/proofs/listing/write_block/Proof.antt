@@ -2,7 +2,7 @@
 -- Assumes nothing.
 use borrow.Author.Needs.{needs}
 use native.Mathlib.Omega.{arith}
-use Rattle.segment.proofs.Parts.{span, part-length, part-records}
+use Rattle.index_segment.proofs.Parts.{span, part-length, part-records}
 use Rattle.index.proofs.listing.write_block.Statement.{statement}
 use Rattle.index.proofs.listing.write_block.Tie as tie
 

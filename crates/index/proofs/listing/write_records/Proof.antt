@@ -5,15 +5,15 @@ use native.Mathlib.Omega.{arith}
 use mathlib.Core.Path.{_≡_, refl, _∙_}
 use Prim.Native.Nat.{_-_, _≤_}
 use lib.ListN.{length}
-use Rattle.rules.specs.Layout.{depth}
-use Rattle.rules.specs.Scan.{leader}
-use Rattle.rules.specs.Listing.{wordsOf}
-use Rattle.rules.proofs.Scan.{leader-zero}
-use Rattle.rules.proofs.BlockRecords.{recordsTo, records-start, records-end}
+use Rattle.index_rules.specs.Layout.{depth}
+use Rattle.index_rules.specs.Scan.{leader}
+use Rattle.index_rules.specs.Listing.{wordsOf}
+use Rattle.index_laws.proofs.Scan.{leader-zero}
+use Rattle.index_laws.proofs.BlockRecords.{recordsTo, records-start, records-end}
 use Rattle.stores.specs.Written.{Written}
 use Rattle.stores.proofs.Written.{written-none}
-use Rattle.rules.proofs.Listing.{words-none, length-words}
-use Rattle.layout.proofs.Shapes.{bounds}
+use Rattle.index_laws.proofs.Listing.{words-none, length-words}
+use Rattle.index_layout.proofs.Shapes.{bounds}
 use Rattle.index.proofs.Listings.{Turn, turn, loop-leads, write-turn}
 use Rattle.index.proofs.listing.write_records.Statement.{statement}
 use Rattle.index.proofs.listing.write_records.Tie as tie

@@ -1,7 +1,7 @@
 -- `index::place::place_to_change` meets its contract.
 -- Assumes nothing.
 use mathlib.Core.Path.{sym, _∙_}
-use Rattle.layout.proofs.Answers.{header-valid, header-not-valid}
+use Rattle.index_layout.proofs.Answers.{header-valid, header-not-valid}
 use Rattle.index.proofs.Places.{change-no-store, change-no-key, change-directory-decides, change-entry}
 use borrow.Author.Needs.{needs}
 use Rattle.index.proofs.place.place_to_change.Statement.{statement}

@@ -2,8 +2,8 @@
 -- Assumes nothing.
 use native.Mathlib.Omega.{arith}
 use mathlib.Core.Path.{_∙_}
-use Rattle.layout.proofs.Places.{place-bounds}
-use Rattle.segment.proofs.Parts.{span, part-choose}
+use Rattle.index_layout.proofs.Places.{place-bounds}
+use Rattle.index_segment.proofs.Parts.{span, part-choose}
 use Rattle.index.proofs.Places.{place-choice}
 use borrow.Author.Needs.{needs}
 use Rattle.index.proofs.slot.choose_at.Statement.{statement}

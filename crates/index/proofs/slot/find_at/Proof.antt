@@ -1,7 +1,7 @@
 -- `index::slot::find_at` meets its contract.
 -- Assumes nothing.
 use mathlib.Core.Path.{_∙_}
-use Rattle.segment.proofs.Parts.{span, part-hit}
+use Rattle.index_segment.proofs.Parts.{span, part-hit}
 use borrow.Author.Needs.{needs}
 use Rattle.index.proofs.slot.find_at.Statement.{statement}
 use Rattle.index.proofs.slot.find_at.Tie as tie

@@ -2,7 +2,7 @@
 -- Assumes nothing.
 use native.Mathlib.Omega.{arith}
 use Rattle.stores.proofs.Stores.{executed-append}
-use Rattle.layout.proofs.Places.{place-bounds}
+use Rattle.index_layout.proofs.Places.{place-bounds}
 use Rattle.index.proofs.Answers.{answered-stores}
 use Rattle.index.proofs.Puts.{value-stored}
 use borrow.Author.Needs.{needs}

@@ -1,7 +1,7 @@
 -- `index::slot::put_value` meets its contract.
 -- Assumes nothing.
 use native.Mathlib.Omega.{arith}
-use Rattle.layout.proofs.Places.{place-bounds}
+use Rattle.index_layout.proofs.Places.{place-bounds}
 use Rattle.index.proofs.Answers.{answered-stores}
 use Rattle.index.proofs.Puts.{value-stored}
 use borrow.Author.Needs.{needs}

@@ -1,0 +1,99 @@
+-- `index_segment::choice::usable_slot` meets its contract. The invariant: no slot so far is usable.
+-- Assumes nothing.
+use Prim.Native.Nat.{ℕ, _-_, _≤_, _<_}
+use borrow.Author.Needs.{needs}
+use native.Mathlib.Omega.{arith}
+use mathlib.Core.Path.{_≡_, sym, _∙_}
+use mathlib.Core.List.{List}
+use mathlib.Core.Option.{none}
+use Rattle.stores.specs.Lists.{firstIn}
+use Rattle.index_layout.specs.Blocks.{shared}
+use Rattle.index_segment.specs.Bucket.{bucketWords, usable}
+use Rattle.index_segment.proofs.Search.{slotsBefore, no-slot-yet, slot-passed, slot-hit, no-slot, slot-usable}
+use Rattle.index_segment.proofs.choice.usable_slot.Statement.{statement}
+use Rattle.index_segment.proofs.choice.usable_slot.Tie as tie
+
+abbrev Inv-loop : tie.InvT-loop
+Inv-loop number block bucket j₀ j =
+    (j ≤ 4)
+    × ((a : List ℕ) → bucket .words ≡ bucketWords a number → firstIn (usable (block .«local_depth») (shared block) a) (slotsBefore number j) ≡ none)
+
+abbrev μ-loop : tie.MeasureT-loop
+μ-loop number block bucket j₀ j = 4 - j
+
+loop-holds : tie.Need-loop-holds Inv-loop μ-loop
+loop-holds c = (search needs, λ a e. no-slot-yet _ _)
+
+mul-is-live : tie.Need-mul-is-live Inv-loop μ-loop
+mul-is-live c = search needs
+
+mul-is-live-2 : tie.Need-mul-is-live-2 Inv-loop μ-loop
+mul-is-live-2 c = search needs
+
+element-copy-out-is-live : tie.Need-element-copy-out-is-live Inv-loop μ-loop
+element-copy-out-is-live c = search needs
+
+is-live-requires : tie.Need-is-live-requires Inv-loop μ-loop
+is-live-requires c κs = search needs
+
+mul-t13 : tie.Need-mul-t13 Inv-loop μ-loop
+mul-t13 c = search needs
+
+add-t14 : tie.Need-add-t14 Inv-loop μ-loop
+add-t14 c = search needs
+
+returns : tie.Need-returns Inv-loop μ-loop
+returns c =
+    let u = c .before .before .before .before .before .args in
+    let L = u .block .«local_depth» in
+    let j = c .before .before .before .before .loop .j in
+    let k : j < 4 = search needs in
+    let test = c .before .is-live in
+    λ a e.
+    sym
+    (slot-hit _ (u .number) j k (c .before .before .before .before .loop .inv .1 a e)
+    (slot-usable a (u .t1 .words) (u .number) j 0 e k L (shared (u .block)) (test .result) (test .ensures) ∙ c .if1 .taken))
+
+add-j : tie.Need-add-j Inv-loop μ-loop
+add-j c = search needs
+
+loop-less : tie.Need-loop-less Inv-loop μ-loop
+loop-less c = search needs
+
+loop-again : tie.Need-loop-again Inv-loop μ-loop
+loop-again c =
+    let u = c .before .before .before .before .before .args in
+    let L = u .block .«local_depth» in
+    let j = c .before .before .before .before .loop .j in
+    let k : j < 4 = search needs in
+    let test = c .before .is-live in (
+      search needs,
+      λ a e.
+          slot-passed _ (u .number) j (c .before .before .before .before .loop .inv .1 a e)
+          (slot-usable a (u .t1 .words) (u .number) j 0 e k L (shared (u .block)) (test .result) (test .ensures) ∙ c .if1 .left),
+    )
+
+returns-2 : tie.Need-returns-2 Inv-loop μ-loop
+returns-2 c =
+    let j = c .before .loop .j in
+    let all : j ≡ 4 = omega arith in
+    λ a e. sym (no-slot _ (c .before .before .args .number) (rw all at (c .before .loop .inv .1 a e)))
+
+pub usable-slot-spec : {M : Type 1} → statement M
+usable-slot-spec =
+    tie.close
+    (tie.spec
+    Inv-loop
+    μ-loop
+    loop-holds
+    mul-is-live
+    mul-is-live-2
+    element-copy-out-is-live
+    is-live-requires
+    mul-t13
+    add-t14
+    returns
+    add-j
+    loop-less
+    loop-again
+    returns-2)

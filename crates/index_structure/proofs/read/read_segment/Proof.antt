@@ -1,0 +1,74 @@
+-- `index_structure::read::read_segment` meets its contract. The invariant: the words so far are the segment's.
+-- Assumes nothing.
+use borrow.Author.Needs.{needs}
+use native.Mathlib.Omega.{arith}
+use mathlib.Core.Path.{_≡_}
+use Prim.Native.Nat.{_-_, _≤_}
+use lib.ListN.{length, take, drop}
+use Rattle.index_structure.proofs.Copies.{copy-more, copy-all}
+use Rattle.index_structure.proofs.read.read_segment.Statement.{statement}
+use Rattle.index_structure.proofs.read.read_segment.Tie as tie
+
+abbrev Inv-loop : tie.InvT-loop
+Inv-loop words base segment₀ i₀ segment i =
+    (i ≤ 128) × (length segment ≡ 128) × (take i segment ≡ take i (drop base words))
+
+abbrev μ-loop : tie.MeasureT-loop
+μ-loop words base segment₀ i₀ segment i = 128 - i
+
+loop-holds : tie.Need-loop-holds Inv-loop μ-loop
+loop-holds c = search needs
+
+add-segment : tie.Need-add-segment Inv-loop μ-loop
+add-segment c = search needs
+
+mul-segment : tie.Need-mul-segment Inv-loop μ-loop
+mul-segment c = search needs
+
+shared-slice-read-segment : tie.Need-shared-slice-read-segment Inv-loop μ-loop
+shared-slice-read-segment c = search needs
+
+mul-segment-2 : tie.Need-mul-segment-2 Inv-loop μ-loop
+mul-segment-2 c = search needs
+
+array-write-segment : tie.Need-array-write-segment Inv-loop μ-loop
+array-write-segment c = search needs
+
+add-i : tie.Need-add-i Inv-loop μ-loop
+add-i c = search needs
+
+loop-less : tie.Need-loop-less Inv-loop μ-loop
+loop-less c = search needs
+
+loop-again : tie.Need-loop-again Inv-loop μ-loop
+loop-again c =
+    let u = c .before .before .before .args in
+    let l = c .before .before .loop in
+    let k = c .before .loop-test .taken in (
+      search needs,
+      search needs,
+      copy-more (u .words .now) (u .base) (c .before .before .before .pre) (l .segment) (l .i) k (l .inv .1) (l .inv .2),
+    )
+
+returns : tie.Need-returns Inv-loop μ-loop
+returns c =
+    let u = c .before .before .args in
+    let l = c .before .loop in
+    copy-all (u .words .now) (u .base) (c .before .before .pre) (l .segment) (l .i) (omega arith) (l .inv .1) (l .inv .2)
+
+pub read-segment-spec : {M : Type 1} → statement M
+read-segment-spec =
+    tie.close
+    (tie.spec
+    Inv-loop
+    μ-loop
+    loop-holds
+    add-segment
+    mul-segment
+    shared-slice-read-segment
+    mul-segment-2
+    array-write-segment
+    add-i
+    loop-less
+    loop-again
+    returns)

@@ -1,0 +1,52 @@
+-- `index_structure::split::split` meets its contract.
+-- Assumes nothing.
+use Rattle.index_structure.proofs.Splits.{no-segment, can-split, split-made}
+use native.Mathlib.Omega.{arith}
+use borrow.Author.Needs.{needs}
+use Rattle.index_structure.proofs.split.split.Statement.{statement}
+use Rattle.index_structure.proofs.split.split.Tie as tie
+
+returns : tie.Need-returns
+returns c = search needs
+
+free-segment-requires : tie.Need-free-segment-requires
+free-segment-requires c κs = search needs
+
+enum-known-new-segment : tie.Need-enum-known-new-segment
+enum-known-new-segment c = search needs
+
+enum-told : tie.Need-enum-told
+enum-told c = search needs
+
+same-length : tie.Need-same-length
+same-length c = search needs
+
+returns-2 : tie.Need-returns-2
+returns-2 c =
+    no-segment (c .before .before .before .before .before .before .before .before .before .pre) (λ e. omega (arith, c .before .before .before .before .if1 .left)) (c .before .before .free-segment .ensures) (c .enum-told .given .1)
+
+split-into-requires : tie.Need-split-into-requires
+split-into-requires c κs =
+    can-split (c .before .before .before .before .before .before .before .before .before .before .before .pre) (λ e. omega (arith, c .before .before .before .before .before .before .if1 .left)) (c .before .before .before .before .free-segment .ensures) (c .before .before .new-segment .given .1)
+
+same-length-2 : tie.Need-same-length-2
+same-length-2 c = search needs
+
+returns-3 : tie.Need-returns-3
+returns-3 c =
+    split-made (c .before .before .before .before .before .before .before .before .before .before .before .before .before .before .pre) (λ e. omega (arith, c .before .before .before .before .before .before .before .before .before .if1 .left)) (c .before .before .before .before .before .before .before .free-segment .ensures) (c .before .before .before .before .before .new-segment .given .1)
+    (c .before .before .split-into .ensures)
+
+pub split-spec : {M : Type 1} → statement M
+split-spec =
+    tie.close
+    (tie.spec
+    returns
+    free-segment-requires
+    enum-known-new-segment
+    enum-told
+    same-length
+    returns-2
+    split-into-requires
+    same-length-2
+    returns-3)

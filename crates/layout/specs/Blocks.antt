@@ -1,9 +1,0 @@
--- The keys of a block.
--- Assumes nothing.
-use Prim.Native.Nat.{ℕ}
-use Rattle.rules.specs.Keys.{firstBits}
-use Rattle.layout.specs.declared.key.Block.{Block}
-
--- The first directory bits that the keys of a block share, as many as its local depth, as the index of the block.
-abbrev pub shared : Block → ℕ
-shared b = firstBits (b .bits) (b .«local_depth»)
