@@ -273,8 +273,8 @@ void cabinet(long stores, std::map<std::string, Count> &counts, Random &r) {
     Pair pair(words, counts);
     while (pair.stores < stores) {
         word key = 1 + r() % (2 * pages), kind = r() % 16;
-        std::uint32_t allowed = r() % 8 ? all : std::uint32_t(r() % 200);
-        twin::Answer answer = pair.make(kind < 10 ? put(key, r(), allowed) : kind < 14 ? remove(key, allowed) : merge(key, allowed));
+        std::uint32_t allowance = r() % 8 ? all : std::uint32_t(r() % 200);
+        twin::Answer answer = pair.make(kind < 10 ? put(key, r(), allowance) : kind < 14 ? remove(key, allowance) : merge(key, allowance));
         if (answer.code == twin::cut_off || answer.code == twin::unmended) pair.make(mend(all));
     }
     if (!pair.same()) watch::stop("the arrays differ behind a run");

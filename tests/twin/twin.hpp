@@ -102,7 +102,7 @@ class Index {
             std::uint32_t fresh = free_segment();
             if (fresh == s) return end(no_segment);
             split(i, std::uint32_t(e), l, fresh);
-            if (due > allowed) return end(cut_off);
+            if (due > allowance) return end(cut_off);
         }
     }
 
@@ -187,22 +187,22 @@ class Index {
     mutable unsigned g = 0, d = 0;
     mutable std::uint32_t s = 0;
     std::uint64_t due = 0;
-    std::uint32_t allowed = 0;
+    std::uint32_t allowance = 0;
 
     static Answer refuse(std::uint32_t code) { return Answer{code, 0, 0}; }
 
-    void begin(std::uint32_t allowance) {
+    void begin(std::uint32_t stores) {
         due = 0;
-        allowed = allowance;
+        allowance = stores;
     }
 
     Answer end(std::uint32_t code) const {
-        if (due > allowed) return Answer{cut_off, allowed, 0};
+        if (due > allowance) return Answer{cut_off, allowance, 0};
         return Answer{code, std::uint32_t(due), 0};
     }
 
     void store(std::size_t i, word value) {
-        if (due++ < allowed) {
+        if (due++ < allowance) {
             log.store(i, value);
             w[i] = value;
         }

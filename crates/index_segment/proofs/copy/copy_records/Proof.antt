@@ -19,14 +19,14 @@ use Rattle.index_segment.proofs.copy.copy_records.Statement.{statement}
 use Rattle.index_segment.proofs.copy.copy_records.Tie as tie
 
 abbrev Inv-loop : tie.InvT-loop
-Inv-loop new-segment₀ block allowance due old due-now₀ slot₀ new-segment due-now slot =
+Inv-loop new-segment₀ block allowance due old due₁ slot₀ new-segment due′ slot =
     (slot ≤ 64)
     × (length new-segment ≡ length new-segment₀)
-    × (due-now ≤ due + 2 * slot)
-    × Executed (each (slotCopy old block) slot) allowance due new-segment₀ due-now new-segment
+    × (due′ ≤ due + 2 * slot)
+    × Executed (each (slotCopy old block) slot) allowance due new-segment₀ due′ new-segment
 
 abbrev μ-loop : tie.MeasureT-loop
-μ-loop new-segment₀ block allowance due old due-now₀ slot₀ new-segment due-now slot = 64 - slot
+μ-loop new-segment₀ block allowance due old due₁ slot₀ new-segment due′ slot = 64 - slot
 
 loop-holds : tie.Need-loop-holds Inv-loop μ-loop
 loop-holds c = (search needs, refl, search needs, rw (each-zero _) (executed-none _ _ _))
@@ -76,7 +76,7 @@ loop-again c =
       omega (arith, copied .count, copy-short old L bits slot),
       rw (add-one slot, each-suc (copySlot old 0 0 L bits) slot)
           (executed-append (each (copySlot old 0 0 L bits) slot) (copySlot old 0 0 L bits slot) (u .allowance) (u .due) (u .new-segment .now)
-          (here .due-now) (here .new-segment) (call .result) (call .last .0) (here .inv .3) copied),
+          (here .due) (here .new-segment) (call .result) (call .last .0) (here .inv .3) copied),
     )
 
 same-length : tie.Need-same-length Inv-loop μ-loop
