@@ -1,4 +1,4 @@
 -- The laws of the desk program's text.
-pub mod Fields
+pub mod Reading
 pub mod Texts
 pub mod Samples

@@ -1,12 +1,11 @@
 // A line of a script: the call that it is, if it is one.
-use bytes::scan::find;
+use crate::fields::Fields;
+use crate::fields::read_fields;
 use index_rules::Call;
-use text::TAB;
-use text::number::Number;
-use text::number::read_number;
 ghost use mathlib.Core.Path.{_≡_};
 ghost use mathlib.Core.List.{[], _∷_};
 ghost use Rattle.desk_text.specs.Line.{callOf, callWith, lineSaid};
+ghost use Rattle.desk_text.specs.Fields.{fieldsCall};
 
 // The first number that is no allowance.
 const ALLOWANCE_LIMIT: u64 = 4294967296;
@@ -101,42 +100,30 @@ fn call_of_three(letter: u8, x: u64, y: u64, z: u64) -> Line
     Line::Other
 }
 
-// Reads a line without its line feed: a letter, and up to three numbers, each behind a tab.
+// The call of a line's fields.
+pub fn call_of(fields: Fields) -> Line
+    ensures { λ r. ⌜ lineSaid r ≡ fieldsCall fields ⌝ }
+{
+    if !fields.sound {
+        return Line::Other;
+    }
+    let letter = fields.letter;
+    let numbers = fields.numbers;
+    if fields.count == 0 {
+        return call_of_none(letter);
+    }
+    if fields.count == 1 {
+        return call_of_one(letter, numbers[0]);
+    }
+    if fields.count == 2 {
+        return call_of_two(letter, numbers[0], numbers[1]);
+    }
+    call_of_three(letter, numbers[0], numbers[1], numbers[2])
+}
+
+// Reads a line without its line feed.
 pub fn read_line(line: &[u8]) -> Line
     ensures { λ r. ⌜ lineSaid r ≡ callOf (now (line .entry)) ⌝ }
 {
-    if line.len() == 0 {
-        return Line::Other;
-    }
-    let letter = line[0];
-    if line.len() == 1 {
-        return call_of_none(letter);
-    }
-    if line[1] != TAB {
-        return Line::Other;
-    }
-    let x_end = find(line, 2, line.len(), TAB);
-    let Number::Is(x) = read_number(&line[2..x_end]) else {
-        return Line::Other;
-    };
-    if x_end == line.len() {
-        return call_of_one(letter, x);
-    }
-    let y_start = x_end + 1;
-    let y_end = find(line, y_start, line.len(), TAB);
-    let Number::Is(y) = read_number(&line[y_start..y_end]) else {
-        return Line::Other;
-    };
-    if y_end == line.len() {
-        return call_of_two(letter, x, y);
-    }
-    let z_start = y_end + 1;
-    let z_end = find(line, z_start, line.len(), TAB);
-    let Number::Is(z) = read_number(&line[z_start..z_end]) else {
-        return Line::Other;
-    };
-    if z_end == line.len() {
-        return call_of_three(letter, x, y, z);
-    }
-    Line::Other
+    call_of(read_fields(line))
 }

@@ -5,7 +5,7 @@ use borrow.Author.Tests.{eq-eqb, ne-eqb, lt-ltb, le-ltb}
 use borrow.Author.Needs.{needs}
 use lib.Dec.{eqb}
 use Rattle.desk_text.specs.Line.{letterFormat, letterPut, callWith, allowed}
-use Rattle.desk_text.proofs.Fields.{either-none}
+use Rattle.desk_text.proofs.Reading.{either-none}
 use Rattle.desk_text.proofs.line.call_of_three.Statement.{statement}
 use Rattle.desk_text.proofs.line.call_of_three.Tie as tie
 

@@ -1,15 +1,16 @@
 -- A text in parts, one part after the other, and the call that a line's fields make.
 -- Assumes nothing.
-use Prim.Native.Nat.{ℕ, _+_, _-_, _≤_, _<_}
+use Prim.Native.Nat.{ℕ, suc, _+_, _-_, _≤_, _<_}
 use mathlib.Core.Path.{_≡_, refl, sym, ap, _∙_}
-use mathlib.Core.Bool.{Bool, true, false}
+use mathlib.Core.Bool.{Bool, true, false, false≢true, not}
 use mathlib.Core.List.{List, [], _∷_, _++_}
 use mathlib.Core.Option.{Option, none, some}
 use mathlib.Core.Logic.{⊎-elim}
 use native.Mathlib.Omega.{arith}
 use borrow.Author.Tests.{eqb-true, ne-eqb}
 use lib.Dec.{eqb}
-use lib.ListN.{length, take, drop, getD}
+use lib.ListN.{length, take, drop, getD, set}
+use lib.Seq.{take-all, take-suc-set}
 use Rattle.stores.proofs.Lists.{ahead, ahead-nil, ahead-ahead}
 use Rattle.bytes.specs.Bytes.{indexOf, slice}
 use Rattle.stores.specs.Lists.{pick}
@@ -17,6 +18,8 @@ use Rattle.stores.proofs.Tests.{cases}
 use Rattle.text.specs.Parts.{tab, startedBy, parts, fieldsOf}
 use Rattle.text.specs.Number.{number}
 use Rattle.text.proofs.Parts.{behind, parts-first, part-first, part-last, part-more}
+use Rattle.desk_text.specs.declared.fields.Fields.{Fields}
+use Rattle.desk_text.specs.Fields.{numbersHeld, fieldsCall}
 use Rattle.desk_text.specs.Line.{Spoken, both, numbersOf, callWith, calledWith, callOfFields, callOf}
 
 both-some : (x : ℕ) (o : Option (List ℕ)) → both (some x) o ≡ ahead (x ∷ []) o
@@ -129,3 +132,59 @@ pub either-none : (s t : Bool) → pick {A = Option Spoken} s none (pick t none 
 either-none true t = refl
 either-none false true = refl
 either-none false false = refl
+
+-- ---- Fields of three numbers at most, as an array holds them
+
+pub no-call-made : (f : Fields) → not (f .sound) ≡ true → none ≡ fieldsCall f
+no-call-made f e = go (f .sound) e
+  where
+    go : (b : Bool) → not b ≡ true → none ≡ pick b (callWith (f .letter) (numbersHeld f)) none
+    go true e = absurd (false≢true e)
+    go false e = refl
+
+-- The call of these numbers is that of the fields.
+pub call-made : (f : Fields) (ns : List ℕ) → not (f .sound) ≡ false → numbersHeld f ≡ ns → callWith (f .letter) ns ≡ fieldsCall f
+call-made f ns e h = rw (← h) (go (f .sound) e)
+  where
+    go : (b : Bool) → not b ≡ false → callWith (f .letter) (numbersHeld f) ≡ pick b (callWith (f .letter) (numbersHeld f)) none
+    go true e = refl
+    go false e = absurd (false≢true (sym e))
+
+pub first-none : (ns : List ℕ) (n : ℕ) → n ≡ 0 → take n ns ≡ []
+first-none ns n e = rw e refl
+
+pub first-one : (ns : List ℕ) (n : ℕ) → length ns ≡ 3 → n ≡ 1 → take n ns ≡ getD ns 0 0 ∷ []
+first-one [] n l e = absurd (omega arith)
+first-one (x ∷ ns) n l e = rw e refl
+
+pub first-two : (ns : List ℕ) (n : ℕ) → length ns ≡ 3 → n ≡ 2 → take n ns ≡ getD ns 0 0 ∷ getD ns 1 0 ∷ []
+first-two [] n l e = absurd (omega arith)
+first-two (x ∷ []) n l e = absurd (omega arith)
+first-two (x ∷ y ∷ ns) n l e = rw e refl
+
+pub first-three : (ns : List ℕ) (n : ℕ) → length ns ≡ 3 → 3 ≤ n → take n ns ≡ getD ns 0 0 ∷ getD ns 1 0 ∷ getD ns 2 0 ∷ []
+first-three [] n l h = absurd (omega arith)
+first-three (x ∷ []) n l h = absurd (omega arith)
+first-three (x ∷ y ∷ []) n l h = absurd (omega arith)
+first-three (x ∷ y ∷ z ∷ []) n l h = take-all n (x ∷ y ∷ z ∷ []) h
+first-three (x ∷ y ∷ z ∷ w ∷ ns) n l h = absurd (omega arith)
+
+-- A line that goes on behind three numbers is no call.
+pub read-all : (line : List ℕ) (letter start i : ℕ) (ns : List ℕ) → length ns ≡ 3 → 3 ≤ i → Reading line letter start (take i ns) → callOf line ≡ none
+read-all line letter start i ns l h r = read-too-many line letter start _ _ _ (rw (first-three ns i l h) at r)
+
+-- The next number, written behind the i numbers that an array holds.
+held-grows : (ns : List ℕ) (i x : ℕ) → length ns ≡ 3 → i < 3 → take (i + 1) (set ns i x) ≡ take i ns ++ (x ∷ [])
+held-grows ns i x l k =
+    let next : i + 1 ≡ suc i = omega arith in
+    rw next (take-suc-set ns i x (omega arith))
+
+module _ (line : List ℕ) (letter start end i : ℕ) (held : List ℕ) (h : start ≤ length line)
+    (e : end ≡ start + indexOf tab (slice start (length line) line)) (l : length held ≡ 3) (k : i < 3) (r : Reading line letter start (take i held))
+    (x : ℕ) (n : number (take (end - start) (drop start line)) ≡ some x)
+  where
+    pub held-more : end < length line → Reading line letter (end + 1) (take (i + 1) (set held i x))
+    held-more more = rw (held-grows held i x l k) (read-more line letter start end (take i held) h e r x n more)
+
+    pub held-last : end ≡ length line → callWith letter (take (i + 1) (set held i x)) ≡ callOf line
+    held-last last = rw (held-grows held i x l k) (sym (read-last line letter start end (take i held) h e r x n last))
