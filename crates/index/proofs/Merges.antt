@@ -20,7 +20,7 @@ use Rattle.index_laws.proofs.Keys.{index-lt}
 use Rattle.index_laws.proofs.Blocks.{consistent-blocks}
 use Rattle.index_laws.proofs.Doubling.{entry-of-key}
 use Rattle.index_laws.proofs.Put.{Passed, passed}
-use Rattle.index_laws.proofs.Merge.{left-below, right-below, no-buddy, both-live, both-pass, tests-stop, tests-past}
+use Rattle.index_laws.proofs.Merge.{key-placed, left-below, right-below, no-buddy, both-live, both-pass, tests-stop, tests-past}
 use Rattle.index_layout.specs.declared.place.Place.{Place}
 use Rattle.index_layout.specs.Places.{KeyPlace}
 use Rattle.index_structure.specs.declared.merge.MergeAnswer.{MergeAnswer}
@@ -33,13 +33,8 @@ use Rattle.index.proofs.Calls.{AfterStores, Without}
 -- Where the key's entry has a buddy, both name segments below S: the directory is consistent.
 pub halves-below : {p : Place} {a : List ℕ} {key : ℕ} → KeyPlace p a → putTests a key ≡ none → p .key ≡ key → HalvesBelow p a
 halves-below {p} {a} {key} k t e =
-    let tests : Passed a key = passed a key t in
-    let dir = consistent-blocks a (depth a) (segments a) (tests .leaders) (tests .agree) in
-    rw e
-    (λ b. (
-      left-below a (index key (depth a)) (keyEntry a key) dir (index-lt key (depth a)) (entry-of-key a key (depth a) refl) b,
-      right-below a (index key (depth a)) (keyEntry a key) dir (index-lt key (depth a)) (entry-of-key a key (depth a) refl) b,
-    ))
+    let h = key-placed a key t in
+    rw e (λ b. (left-below h b, right-below h b))
 
 module _ (a : List ℕ) (key allowance : ℕ) (r : Answer) where
   pub merge-refused : (q : Refusal) → putTests a key ≡ some q → Without r (refuse q) → Answered (outcomeOf a (Merge key allowance)) r a

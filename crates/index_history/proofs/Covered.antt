@@ -12,6 +12,7 @@ use Rattle.index_rules.specs.Step.{effect, step}
 use Rattle.replies.proofs.Outcomes.{Complete, CutShort, changed-cases, refused-not-done, tested-none, tests-passed}
 use Rattle.index_laws.proofs.Listing.{done-list-leaves}
 use Rattle.index_laws.proofs.ListBlock.{joined-listing}
+use Rattle.index_laws.proofs.Put.{tests-consistent}
 use Rattle.index_laws.proofs.Merge.{merge-passed}
 use Rattle.index_history.specs.Further.{MendSuffices, ListIsMap, PartsAreMap, MergeFrees}
 use Rattle.index_history.proofs.Invariant.{shape-depth, shape-segments, shape-valid}
@@ -55,7 +56,7 @@ merge-frees p c key allowance l says =
     (λ (d : Complete (merge a key) a (changed allowance (merge a key) a)).
     let t : mergeTests a key ≡ none = tests-passed (mergeTests a key) _ [] (sym (d .reply) ∙ says) in
     let passed = merge-passed a key t in
-    let same = entries-recovered inv (passed .tests .agree) in
+    let same = entries-recovered inv (tests-consistent a key (passed .tests .tests) .1) in
     rw (d .after, t, tested-none) (right-free inv same key passed))
     (λ (d : CutShort allowance (merge a key) a (changed allowance (merge a key) a)). absurd (refused-not-done 7 [] (sym (d .reply) ∙ says)))
     (changed-cases allowance (merge a key) a)

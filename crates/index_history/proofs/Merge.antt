@@ -22,11 +22,12 @@ use Rattle.index_rules.specs.Slots.{named}
 use Rattle.index_rules.specs.Get.{keyEntry}
 use Rattle.index_rules.specs.Merge.{joinedDepth, leftEntry, rightEntry, hasBuddy, bothLive, bothLiveAt, halvesTests, mergeTests, mergingOf, rightOf, keyMerging, merge}
 use Rattle.index_laws.proofs.Keys.{index-lt}
+use Rattle.index_laws.proofs.Blocks.{Blocks, consistent-blocks}
 use Rattle.index_laws.proofs.Joining.{TwoHalves, halves-same}
 use Rattle.index_laws.proofs.Merge.{no-buddy, both-live, both-pass, MergePassed, merge-passed, passed-halves, passed-left, passed-right}
 use Rattle.runs.specs.Map.{Map, keeps, fed}
 use Rattle.index_history.proofs.Invariant.{Shape, Inv, Recovered, shape-depth, shape-maxDepth, shape-segments}
-use Rattle.index_history.proofs.Recover.{inv-key-tests, inv-directory-tests}
+use Rattle.index_history.proofs.Recover.{inv-leaders-valid, recovered-agree, inv-key-tests, inv-directory-tests}
 use Rattle.index_history.proofs.Kept.{Whole}
 use Rattle.index_history.proofs.Plans.{PlanKept, refusal-kept}
 use Rattle.index_history.proofs.Merging.{merging-kept, merged-shape, right-freed}
@@ -38,10 +39,15 @@ module _ {m : Map} {g d S : ℕ} {f : ℕ → ℕ} {a : List ℕ} (inv : Inv m g
   abbrev e : ℕ
   e = keyEntry a key
 
+  -- The directory as it stands is consistent.
+  before : Blocks (depth a) (segments a) (entryAt a (depth a))
+  before =
+      rw (shape-depth (inv .shape), shape-segments (inv .shape)) (consistent-blocks a g S (inv-leaders-valid inv) (recovered-agree inv same))
+
   -- The two halves, by the directory f.
   module _ (p : MergePassed a key) where
     two : TwoHalves g (joinedDepth e) f i (segmentOf (leftEntry a i e)) (segmentOf (rightEntry a i e))
-    two = halves-same (rw (shape-depth (inv .shape)) at (passed-halves p)) f (λ j h. sym (same j h))
+    two = halves-same (rw (shape-depth (inv .shape)) at (passed-halves p before)) f (λ j h. sym (same j h))
 
     left-low : segmentOf (leftEntry a i e) < S
     left-low = rw (shape-depth (inv .shape), shape-segments (inv .shape)) at (passed-left p)

@@ -36,7 +36,7 @@ module _ {m : Map} {g d S : ℕ} {f : ℕ → ℕ} {a : List ℕ} (inv : Inv m g
   pub inv-leaders-valid : leadersValid a g S ≡ true
   inv-leaders-valid = blocks-valid a g S f (inv .directory .entries) (inv .leaders-agree)
 
-  recovered-agree : Recovered g f a → entriesAgree a g ≡ true
+  pub recovered-agree : Recovered g f a → entriesAgree a g ≡ true
   recovered-agree = blocks-agree a g S f (inv .directory .entries) (inv .leaders-agree)
 
   -- Where each entry equals its leader, all are f's.

@@ -26,7 +26,8 @@ use Rattle.index_rules.specs.Merge.{joinedDepth, joinedBits, leftEntry, rightSe
 use Rattle.index_rules.specs.Step.{effect, step, outcomeOf}
 use Rattle.index_laws.specs.Finished.{slotStores, MendingFinishes, MendingLeaves, MendingIsDone}
 use Rattle.index_laws.proofs.Words.{small, same-header, Within, within-inside, entry-to, directory-low, directory-fits}
-use Rattle.index_laws.proofs.Blocks.{Blocks}
+use Rattle.index_laws.proofs.Scan.{consistent-valid, consistent-agree}
+use Rattle.index_laws.proofs.Blocks.{Blocks, consistent-blocks}
 use Rattle.index_laws.proofs.Doubling.{DirectoryWord}
 use Rattle.index_laws.proofs.Updating.{same-start}
 use Rattle.index_laws.proofs.Mended.{exec-front, exec-behind, not-word-0, Settled, Toward, toward-itself, mended-to, enough-mends}
@@ -35,7 +36,7 @@ use Rattle.index_laws.proofs.Merge.{MergePassed, merge-passed, slots-wi
 
 -- ---- A merge that passes its tests, on an array with a consistent directory
 
-module _ {a : List ℕ} {key : ℕ} (p : MergePassed a key) where
+module _ {a : List ℕ} {key : ℕ} (before : Blocks (depth a) (segments a) (entryAt a (depth a))) (p : MergePassed a key) where
   abbrev g : ℕ
   g = depth a
 
@@ -62,7 +63,7 @@ module _ {a : List ℕ} {key : ℕ} (p : MergePassed a key) where
   fits = small (p .tests .valid) .segments-32
 
   dir : Blocks g (segments a) joined
-  dir = joined-blocks (passed-halves p) fits (passed-left p) (passed-right p) (p .dir)
+  dir = joined-blocks (passed-halves p before) fits (passed-left p) (passed-right p) before
 
   room : 2 ^ suc g ≤ length a
   room = directory-fits (p .tests .valid)
@@ -116,7 +117,7 @@ module _ {a : List ℕ} {key : ℕ} (p : MergePassed a key) where
         length-same = length-exec (entriesJoined a i e) t between ∙ sym (length-apply (entriesJoined a i e) between);
         begins = λ j h b.
             begins-joined g M f i left between t j (entry-there j h) (slots-entries (length (slotsMerged a i e)) j h) one
-            (λ q. sym (same-start g M i j q) ∙ rw (joined-depth (passed-halves p) fits (passed-left p) j q) at b);
+            (λ q. sym (same-start g M i j q) ∙ rw (joined-depth (passed-halves p before) fits (passed-left p) j q) at b);
         elsewhere = λ y other.
             exec-elsewhere (DirectoryWord g) (entriesJoined a i e) t between y (entries-words p) other ∙ sym (whole-elsewhere y other);
       }
@@ -125,7 +126,7 @@ module _ {a : List ℕ} {key : ℕ} (p : MergePassed a key) where
   slots-settled : (n : ℕ) → Settled g (segments a) f (exec (slotsMerged a i e) n a)
   slots-settled n =
       record {
-        dir = p .dir;
+        dir = before;
         entries = slots-entries n;
         deep = ap depthIn (slots-word-0 n);
         room = rw (length-exec (slotsMerged a i e) n a) room;
@@ -159,28 +160,31 @@ module _ {a : List ℕ} {key : ℕ} (p : MergePassed a key) where
 pub mending-finishes : MendingFinishes
 mending-finishes a key n c t stored b m =
     let p = merge-passed a key t in
-    mended-to (whole-settled p) (first-stored p (n - slotStores a key) (omega arith)) (rw (past-slots p t n stored) at m) ∙ sym (merge-left p t)
+    let d = consistent-blocks a (depth a) (segments a) (consistent-valid a _ _ c) (consistent-agree a _ _ c) in
+    mended-to (whole-settled d p) (first-stored d p (n - slotStores a key) (omega arith)) (rw (past-slots d p t n stored) at m) ∙ sym (merge-left d p t)
 
 pub mending-leaves : MendingLeaves
 mending-leaves a key n c t early b m =
     let p = merge-passed a key t in
-    let s = slots-settled p n in
-    mended-to s (toward-itself s) (rw (within-slots p t n early) at m) ∙ sym (within-slots p t n early)
+    let d = consistent-blocks a (depth a) (segments a) (consistent-valid a _ _ c) (consistent-agree a _ _ c) in
+    let s = slots-settled d p n in
+    mended-to s (toward-itself s) (rw (within-slots d p t n early) at m) ∙ sym (within-slots d p t n early)
 
 pub mending-is-done : MendingIsDone
 mending-is-done a key n k c t enough =
     let p = merge-passed a key t in
+    let d = consistent-blocks a (depth a) (segments a) (consistent-valid a _ _ c) (consistent-agree a _ _ c) in
     let v = p .tests .valid in
     ⊎-elim
     (λ (q : ltb (slotStores a key) n ≡ true).
     let stored = ltb-true (slotStores a key) n q in
-    rw (past-slots p t n stored)
-    (enough-mends (whole-settled p) (first-stored p (n - slotStores a key) (omega arith))
-    (same-header a _ (whole-word-0 p) (whole-length p) v) (ap segmentsIn (whole-word-0 p)) k enough))
+    rw (past-slots d p t n stored)
+    (enough-mends (whole-settled d p) (first-stored d p (n - slotStores a key) (omega arith))
+    (same-header a _ (whole-word-0 d p) (whole-length d p) v) (ap segmentsIn (whole-word-0 d p)) k enough))
     (λ (q : ltb (slotStores a key) n ≡ false).
     let early = ltb-false (slotStores a key) n q in
-    let s = slots-settled p n in
-    rw (within-slots p t n early)
+    let s = slots-settled d p n in
+    rw (within-slots d p t n early)
     (enough-mends s (toward-itself s)
-    (same-header a _ (slots-word-0 p n) (length-exec (slotsMerged a (index key (depth a)) (keyEntry a key)) n a) v) (ap segmentsIn (slots-word-0 p n)) k enough))
+    (same-header a _ (slots-word-0 d p n) (length-exec (slotsMerged a (index key (depth a)) (keyEntry a key)) n a) v) (ap segmentsIn (slots-word-0 d p n)) k enough))
     (cases (ltb (slotStores a key) n))

@@ -39,13 +39,13 @@ use Rattle.index_rules.specs.Step.{Effect, changes, answers, effect, carriedOut
 use Rattle.index_laws.proofs.Words.{ValidHeader, valid-header}
 use Rattle.index_laws.proofs.Keys.{index-lt}
 use Rattle.index_laws.proofs.Scan.{range-segment, valid-at-segment}
-use Rattle.index_laws.proofs.Put.{unless-none, Passed, passed, passed-none, put-refused, put-found, put-into, put-too-deep, put-no-segment, put-again, Cases, put-induction}
+use Rattle.index_laws.proofs.Put.{unless-none, Passed, passed, put-refused, put-found, put-into, put-too-deep, put-no-segment, put-again, Cases, put-induction}
 use Rattle.index_laws.proofs.Halving.{keyUpdates}
 use Rattle.index_laws.proofs.Split.{Ready, ready, Splittable, AfterSplit, after-split}
 use Rattle.index_laws.proofs.Agree.{unless-same, tested-same, replied-same, writing-same, pick-same, agree-after, front-key-entry, front-key-segment, agree-front, segment-ends, word-0-same, header-same, key-same, value-same, hit-local, choose-local, value-hit-same, copying-same, live-records-same, entry-same, leader-local, leaders-same, entries-same, mend-entry-same}
 use Rattle.index_laws.proofs.BlockRecords.{leader-segment, leads-at}
 use Rattle.index_laws.proofs.Listing.{listing-passed, block-passed}
-use Rattle.index_laws.proofs.Merge.{joined-room, halves, left-below, right-below, merge-passed}
+use Rattle.index_laws.proofs.Merge.{HalvesPlaced, consistent-placed, joined-room, left-below, right-below, merge-passed}
 use Rattle.index_laws.proofs.Joining.{buddy-inside}
 use Rattle.index_laws.proofs.Blocks.{Blocks, consistent-blocks}
 use Rattle.index_rules.specs.Merge.{buddyStart, joinedDepth, joinedBits, buddyEntry, leftEntry, rightEntry, leftSegment, rightSegment, liveLeft, liveRight, bothLive, mergeSlot, mergingSlots, hasBuddy, bothLiveAt, halvesTests, mergeTests, slotsMerged, mergingOf, merge}
@@ -258,7 +258,7 @@ put-local {a} {b} s key value = put-induction key value (λ a p. (b : List ℕ) 
   where
     -- The tests pass on the other array too, and the choice is the same.
     tests : (a b : List ℕ) → Agree a b → Passed a key → putTests b key ≡ none
-    tests a b s p = sym (put-tests-same s key) ∙ passed-none p
+    tests a b s p = sym (put-tests-same s key) ∙ p .tests
 
     choice : (a b : List ℕ) → Agree a b → Passed a key → (c : Choice) → keyChoice a key ≡ c → keyChoice b key ≡ c
     choice a b s p c e = sym (choice-same s (p .valid) key (p .segment-below)) ∙ e
@@ -292,14 +292,13 @@ put-local {a} {b} s key value = put-induction key value (λ a p. (b : List ℕ) 
 
 -- ---- Merge
 
--- The two halves, of an entry e at index i in a consistent directory.
-module _ {a b : List ℕ} (s : Agree a b) (v : ValidHeader a) (dir : Blocks (depth a) (segments a) (entryAt a (depth a))) (i e : ℕ)
-    (below : i < 2 ^ depth a) (own : e ≡ entryAt a (depth a) i) where
+-- The two halves, of an entry e at index i.
+module _ {a b : List ℕ} (s : Agree a b) (v : ValidHeader a) (i e : ℕ) (h : HalvesPlaced a i e) (below : i < 2 ^ depth a) where
   buddy-entry-same : eqb (localDepth e) 0 ≡ false → buddyEntry a i e ≡ buddyEntry b i e
   unfolding buddyEntry
   buddy-entry-same deep =
       entry-same s (depth a) (v .present) (buddyStart (depth a) (joinedDepth e) i)
-      (buddy-inside (depth a) (joinedDepth e) i (joined-room a i e dir below own deep) below)
+      (buddy-inside (depth a) (joinedDepth e) i (joined-room h deep) below)
       ∙ rw (word-0-same s)
 
   has-buddy-same : hasBuddy a i e ≡ hasBuddy b i e
@@ -324,10 +323,10 @@ module _ {a b : List ℕ} (s : Agree a b) (v : ValidHeader a) (dir : Blocks (dep
     right-same = rw (buddy-entry-same deep-with-buddy, word-0-same s)
 
     left-ends : leftSegment a i e + 128 ≤ wordsFor (maxDepth a) (segments a)
-    left-ends = segment-ends (maxDepth a) (segments a) (segmentOf (leftEntry a i e)) (left-below a i e dir below own buddy)
+    left-ends = segment-ends (maxDepth a) (segments a) (segmentOf (leftEntry a i e)) (left-below h buddy)
 
     right-ends : rightSegment a i e + 128 ≤ wordsFor (maxDepth a) (segments a)
-    right-ends = segment-ends (maxDepth a) (segments a) (segmentOf (rightEntry a i e)) (right-below a i e dir below own buddy)
+    right-ends = segment-ends (maxDepth a) (segments a) (segmentOf (rightEntry a i e)) (right-below h buddy)
 
     both-live-same : bothLiveAt a i e ≡ bothLiveAt b i e
     unfolding bothLive
@@ -373,8 +372,10 @@ merge-tests-same {a} {b} s key =
     (λ k.
     directory-same s v
     (λ l t.
-    halves-tests-same s v (consistent-blocks a (depth a) (segments a) l t) (index key (depth a)) (keyEntry a key) (index-lt key (depth a))
-    (entry-of-key a key (depth a) refl)
+    halves-tests-same s v (index key (depth a)) (keyEntry a key)
+    (consistent-placed a (index key (depth a)) (keyEntry a key) (consistent-blocks a (depth a) (segments a) l t) (index-lt key (depth a))
+    (entry-of-key a key (depth a) refl))
+    (index-lt key (depth a))
     ∙ rw (key-entry-same s v key, word-0-same s))))
 
 pub merge-local : {a b : List ℕ} → Agree a b → (key : ℕ) → merge a key ≡ merge b key
@@ -385,7 +386,7 @@ merge-local {a} {b} s key =
     let p = merge-passed a key e in
     let v = p .tests .valid in
     rw (
-      merging-same s v (p .dir) (index key (depth a)) (keyEntry a key) (index-lt key (depth a)) (p .own) (p .buddy),
+      merging-same s v (index key (depth a)) (keyEntry a key) (p .placed) (index-lt key (depth a)) (p .buddy),
       key-entry-same s v key,
       word-0-same s,
     ))

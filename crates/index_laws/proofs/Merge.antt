@@ -31,22 +31,17 @@ use Rattle.index_laws.proofs.Blocks.{Blocks, consistent-blocks}
 use Rattle.index_laws.proofs.Doubling.{DirectoryWord, entry-of-key}
 use Rattle.index_laws.proofs.Updating.{BlockEntry}
 use Rattle.index_laws.proofs.Joining.{TwoHalves, two-halves, buddy-inside, length-joining, joining-block}
-use Rattle.index_laws.proofs.Put.{unless-none, Passed, passed-behind}
+use Rattle.index_laws.proofs.Put.{unless-none, Passed, passed-behind, tests-consistent}
 
 -- ---- The two halves, of an entry e at index i that has a buddy
 
-module _ (a : List ℕ) (i e : ℕ) (dir : Blocks (depth a) (segments a) (entryAt a (depth a))) (below : i < 2 ^ depth a) (own : e ≡ entryAt a (depth a) i) where
-  -- An entry with a local depth but 0.
-  module _ (deep : eqb (localDepth e) 0 ≡ false) where
-    pub joined-next : localDepth e ≡ suc (joinedDepth e)
-    unfolding joinedDepth
-    joined-next = omega (arith, eqb-false (localDepth e) 0 deep)
-
-    pub joined-room : joinedDepth e < depth a
-    joined-room = rw (← own, joined-next) at (dir .depths i below)
+module _ (a : List ℕ) (i e : ℕ) where
+  joined-next : eqb (localDepth e) 0 ≡ false → localDepth e ≡ suc (joinedDepth e)
+  unfolding joinedDepth
+  joined-next deep = omega (arith, eqb-false (localDepth e) 0 deep)
 
   module _ (buddy : hasBuddy a i e ≡ true) where
-    pub own-depth : localDepth e ≡ suc (joinedDepth e)
+    own-depth : localDepth e ≡ suc (joinedDepth e)
     unfolding hasBuddy
     own-depth =
         joined-next (not-true (eqb (localDepth e) 0) (and-left (not (eqb (localDepth e) 0)) (eqb (localDepth (buddyEntry a i e)) (localDepth e)) buddy))
@@ -58,34 +53,54 @@ module _ (a : List ℕ) (i e : ℕ) (dir : Blocks (depth a) (segments a) (entryA
         (and-right (not (eqb (localDepth e) 0)) (eqb (localDepth (buddyEntry a i e)) (localDepth e)) buddy)
         ∙ own-depth
 
-    -- Their segments are those that the two entries name.
-    pub halves : TwoHalves (depth a) (joinedDepth e) (entryAt a (depth a)) i (segmentOf (leftEntry a i e)) (segmentOf (rightEntry a i e))
-    unfolding leftEntry rightEntry buddyEntry
-    halves = rw (← own) at (two-halves dir (joinedDepth e) i below (rw (← own) own-depth) buddy-depth)
+-- What is needed of the directory for where a merge's stores go, for how many they are and for what it looks at: the entry e is in range,
+-- and a buddy's names a segment too.
+pub record HalvesPlaced (a : List ℕ) (i e : ℕ) : Type 0 where
+  pub low : localDepth e ≤ depth a
+  pub own-below : segmentOf e < segments a
+  pub buddy-below : hasBuddy a i e ≡ true → segmentOf (buddyEntry a i e) < segments a
+
+module _ {a : List ℕ} {i e : ℕ} (h : HalvesPlaced a i e) where
+  pub joined-room : eqb (localDepth e) 0 ≡ false → joinedDepth e < depth a
+  joined-room deep = omega (arith, h .low, joined-next a i e deep)
+
+  module _ (buddy : hasBuddy a i e ≡ true) where
+    pub halves-room : joinedDepth e < depth a
+    halves-room = omega (arith, h .low, own-depth a i e buddy)
 
     -- Both are segments' numbers.
-    buddy-below : segmentOf (buddyEntry a i e) < segments a
-    unfolding buddyEntry
-    buddy-below = dir .below _ (buddy-inside (depth a) (joinedDepth e) i (halves .room) below)
-
-    own-below : segmentOf e < segments a
-    own-below = rw own (dir .below i below)
-
     pub left-below : segmentOf (leftEntry a i e) < segments a
     unfolding leftEntry
     left-below =
         ⊎-elim
-        (λ (t : onRight (depth a) (joinedDepth e) i ≡ true). rw t buddy-below)
-        (λ (t : onRight (depth a) (joinedDepth e) i ≡ false). rw t own-below)
+        (λ (t : onRight (depth a) (joinedDepth e) i ≡ true). rw t (h .buddy-below buddy))
+        (λ (t : onRight (depth a) (joinedDepth e) i ≡ false). rw t (h .own-below))
         (cases (onRight (depth a) (joinedDepth e) i))
 
     pub right-below : segmentOf (rightEntry a i e) < segments a
     unfolding rightEntry
     right-below =
         ⊎-elim
-        (λ (t : onRight (depth a) (joinedDepth e) i ≡ true). rw t own-below)
-        (λ (t : onRight (depth a) (joinedDepth e) i ≡ false). rw t buddy-below)
+        (λ (t : onRight (depth a) (joinedDepth e) i ≡ true). rw t (h .own-below))
+        (λ (t : onRight (depth a) (joinedDepth e) i ≡ false). rw t (h .buddy-below buddy))
         (cases (onRight (depth a) (joinedDepth e) i))
+
+-- In a consistent directory.
+module _ (a : List ℕ) (i e : ℕ) (dir : Blocks (depth a) (segments a) (entryAt a (depth a))) (below : i < 2 ^ depth a) (own : e ≡ entryAt a (depth a) i) where
+  -- The segments of the halves are those that the two entries name.
+  pub halves : hasBuddy a i e ≡ true
+      → TwoHalves (depth a) (joinedDepth e) (entryAt a (depth a)) i (segmentOf (leftEntry a i e)) (segmentOf (rightEntry a i e))
+  unfolding leftEntry rightEntry buddyEntry
+  halves buddy = rw (← own) at (two-halves dir (joinedDepth e) i below (rw (← own) (own-depth a i e buddy)) (buddy-depth a i e buddy))
+
+  pub consistent-placed : HalvesPlaced a i e
+  unfolding buddyEntry
+  consistent-placed =
+      record {
+        low = rw own (dir .depths i below);
+        own-below = rw own (dir .below i below);
+        buddy-below = λ b. dir .below _ (buddy-inside (depth a) (joinedDepth e) i (halves b .room) below);
+      }
 
 -- ---- The tests
 
@@ -121,13 +136,21 @@ tests-stop a key r =
 -- Where they pass, the tests of the two halves decide.
 pub tests-past : {a : List ℕ} {key : ℕ} → Passed a key → mergeTests a key ≡ halvesTests a (index key (depth a)) (keyEntry a key)
 unfolding mergeTests keyTests directoryTests unless
-tests-past {a} {key} p = rw (header-valid (p .valid), ne-eqb key 0 (p .nonzero), p .leaders, p .agree)
+tests-past {a} {key} p =
+    let c = tests-consistent a key (p .tests) in
+    rw (header-valid (p .valid), ne-eqb key 0 (p .nonzero), c .0, c .1)
+
+-- In a consistent directory the key's block and its buddy are placed so.
+pub key-placed : (a : List ℕ) (key : ℕ) → putTests a key ≡ none → HalvesPlaced a (index key (depth a)) (keyEntry a key)
+key-placed a key t =
+    let c = tests-consistent a key t in
+    consistent-placed a (index key (depth a)) (keyEntry a key) (consistent-blocks a (depth a) (segments a) (c .0) (c .1)) (index-lt key (depth a))
+    (entry-of-key a key (depth a) refl)
 
 -- What merge's passed tests say.
 pub record MergePassed (a : List ℕ) (key : ℕ) : Type 0 where
   pub tests : Passed a key
-  pub dir : Blocks (depth a) (segments a) (entryAt a (depth a))
-  pub own : keyEntry a key ≡ entryAt a (depth a) (index key (depth a))
+  pub placed : HalvesPlaced a (index key (depth a)) (keyEntry a key)
   pub buddy : keyBuddy a key ≡ true
   pub apart : keyBothLive a key ≡ false
 
@@ -141,8 +164,7 @@ merge-passed a key t =
     let t₆ = unless-none (not (bothLiveAt a (index key (depth a)) (keyEntry a key))) BothLive none (t₅ .1) in
     record {
       tests = p;
-      dir = consistent-blocks a (depth a) (segments a) (p .leaders) (p .agree);
-      own = entry-of-key a key (depth a) refl;
+      placed = key-placed a key (p .tests);
       buddy = t₅ .0;
       apart = not-true (bothLiveAt a (index key (depth a)) (keyEntry a key)) (t₆ .0);
     }
@@ -184,18 +206,22 @@ module _ {a : List ℕ} {key : ℕ} (p : MergePassed a key) where
   abbrev here : ℕ
   here = keyEntry a key
 
-  pub passed-halves : TwoHalves (depth a) (joinedDepth here) (entryAt a (depth a)) at (segmentOf (leftEntry a at here)) (segmentOf (rightEntry a at here))
-  passed-halves = halves a at here (p .dir) (index-lt key (depth a)) (p .own) (p .buddy)
+  pub passed-room : joinedDepth here < depth a
+  passed-room = halves-room (p .placed) (p .buddy)
 
   pub passed-left : segmentOf (leftEntry a at here) < segments a
-  passed-left = left-below a at here (p .dir) (index-lt key (depth a)) (p .own) (p .buddy)
+  passed-left = left-below (p .placed) (p .buddy)
 
   pub passed-right : segmentOf (rightEntry a at here) < segments a
-  passed-right = right-below a at here (p .dir) (index-lt key (depth a)) (p .own) (p .buddy)
+  passed-right = right-below (p .placed) (p .buddy)
+
+  pub passed-halves : Blocks (depth a) (segments a) (entryAt a (depth a))
+      → TwoHalves (depth a) (joinedDepth here) (entryAt a (depth a)) at (segmentOf (leftEntry a at here)) (segmentOf (rightEntry a at here))
+  passed-halves dir = halves a at here dir (index-lt key (depth a)) (entry-of-key a key (depth a) refl) (p .buddy)
 
   pub entries-words : Every (λ x. DirectoryWord (depth a) (x .at)) (entriesJoined a at here)
   entries-words =
-      joining-words (depth a) (joinedDepth here) at (segmentOf (leftEntry a at here)) (omega (arith, passed-halves .room)) (index-lt key (depth a))
+      joining-words (depth a) (joinedDepth here) at (segmentOf (leftEntry a at here)) (omega (arith, passed-room)) (index-lt key (depth a))
 
   -- None goes beyond the words that D and S take.
   pub merging-in-range : Every (λ s. s .at < wordsFor (maxDepth a) (segments a)) (mergingOf a at here)
@@ -238,7 +264,7 @@ length-merging {a} {key} p =
       length-append (slotsMerged a i e) (entriesJoined a i e),
       length-slots a (leftSegment a i e) a (rightSegment a i e) (joinedDepth e) (joinedBits a i e),
       length-joining (depth a) (joinedDepth e) (joinedStart a i e) (segmentOf (leftEntry a i e)),
-      block-end (depth a) (joinedDepth e) i (omega (arith, passed-halves p .room)) (index-lt key (depth a)),
+      block-end (depth a) (joinedDepth e) i (omega (arith, passed-room p)) (index-lt key (depth a)),
     )
 
 -- It holds on every array.

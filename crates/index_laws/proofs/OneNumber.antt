@@ -33,7 +33,7 @@ use Rattle.index_laws.proofs.Words.{Inside}
 use Rattle.index_laws.proofs.Keys.{window-lt}
 use Rattle.index_laws.proofs.Slots.{chosen-at-hit, choose-same, key-after-value, hit-after-value, value-after-key, hit-after-key}
 use Rattle.index_laws.proofs.Halving.{keyBits}
-use Rattle.index_laws.proofs.Put.{Passed, passed-none, KeyInto, choice-found, choice-into, put-refused, put-found, put-into, put-too-deep, put-no-segment, put-again, renewed, inserted, put-induction}
+use Rattle.index_laws.proofs.Put.{Passed, KeyInto, choice-found, choice-into, put-refused, put-found, put-into, put-too-deep, put-no-segment, put-again, renewed, inserted, put-induction}
 use Rattle.index_laws.proofs.Range.{hit-slot, key-in-range, value-in-range}
 use Rattle.index_laws.proofs.Agree.{SameFront, front-itself, front-word-0, front-key-entry, front-key-segment, front-store}
 
@@ -177,7 +177,7 @@ module _ (key v w : ℕ) where
         at = valueAddress (keySegment a key) j;
         behind = [];
         first = refl;
-        second = put-found a key w (passed-none p) j c;
+        second = put-found a key w (p .tests) j c;
         took = λ u.
             always-none (Took key (valueAddress (keySegment a key) j) u) (withValue a key p j small u)
             (took-value a key p j small u (found j) c refl);
@@ -194,7 +194,7 @@ module _ (key v w : ℕ) where
         at = valueAddress (keySegment a key) j;
         behind = key-store ∷ [];
         first = refl;
-        second = put-into a key w (passed-none p) j c;
+        second = put-into a key w (p .tests) j c;
         took = λ u.
             always-one (Took key (valueAddress (keySegment a key) j) u) key-store (withValue a key p j small u)
             (took-value a key p j small u (into j) c refl) (took-key a key p j small u s);
@@ -224,9 +224,9 @@ module _ (key v w : ℕ) where
         when-refused = λ a r e. inl (record { refuses = refl; same = sym (put-refused a key w r e) });
         when-found = λ a j p c. inr (both-found a j p c);
         when-into = λ a j p c. inr (both-into a j p c);
-        when-deep = λ a p c d. inl (record { refuses = refl; same = sym (put-too-deep a key w (passed-none p) c d) });
-        when-none = λ a p c d f. inl (record { refuses = refl; same = sym (put-no-segment a key w (passed-none p) c d f) });
-        when-split = λ a n p c f s rest. rw (put-again a key w (passed-none p) c (s .local-room) n f) (both-split a n _ _ rest);
+        when-deep = λ a p c d. inl (record { refuses = refl; same = sym (put-too-deep a key w (p .tests) c d) });
+        when-none = λ a p c d f. inl (record { refuses = refl; same = sym (put-no-segment a key w (p .tests) c d f) });
+        when-split = λ a n p c f s rest. rw (put-again a key w (p .tests) c (s .local-room) n f) (both-split a n _ _ rest);
       })
 
 -- ---- A put with another value

@@ -42,19 +42,19 @@ unfolding unless
 unless-none true r later e = (refl, e)
 unless-none false r later e = absurd (some-none r e)
 
--- What a put's passed tests say.
+-- The tests of a put pass, and what they say of word 0, of the key and of its own entry. Of the rest of the directory the laws of where
+-- stores go, of how many they are and of what is looked at need nothing.
 pub record Passed (a : List ℕ) (key : ℕ) : Type 0 where
   pub valid : ValidHeader a
   pub nonzero : key ≡ 0 → ⊥
-  pub leaders : leadersValid a (depth a) (segments a) ≡ true
-  pub agree : entriesAgree a (depth a) ≡ true
   pub local-low : localDepth (keyEntry a key) ≤ depth a
   pub segment-below : segmentOf (keyEntry a key) < segments a
+  pub tests : putTests a key ≡ none
 
 -- The same tests, with others behind them.
 pub passed-behind : (a : List ℕ) (key : ℕ) (later : Option Refusal) → keyTests a key (directoryTests a later) ≡ none
     → Passed a key × (later ≡ none)
-unfolding keyTests directoryTests
+unfolding putTests keyTests directoryTests unless
 passed-behind a key later e =
     let t₁ = unless-none (validHeader a) NoStore _ e in
     let t₂ = unless-none (not (eqb key 0)) NoKey _ (t₁ .1) in
@@ -66,10 +66,9 @@ passed-behind a key later e =
       record {
         valid = valid-header a (t₁ .0);
         nonzero = eqb-false key 0 (not-true (eqb key 0) (t₂ .0));
-        leaders = t₃ .0;
-        agree = t₄ .0;
         local-low = range-depth (depth a) (segments a) (keyEntry a key) range;
         segment-below = range-segment (depth a) (segments a) (keyEntry a key) range;
+        tests = rw (t₁ .0, t₂ .0, t₃ .0, t₄ .0);
       },
       t₄ .1,
     )
@@ -78,10 +77,15 @@ pub passed : (a : List ℕ) (key : ℕ) → putTests a key ≡ none → Passed a
 unfolding putTests
 passed a key e = passed-behind a key none e .0
 
--- What the passed tests say is enough for them to pass.
-pub passed-none : {a : List ℕ} {key : ℕ} → Passed a key → putTests a key ≡ none
-unfolding putTests keyTests directoryTests unless
-passed-none {a} {key} p = rw (header-valid (p .valid), ne-eqb key 0 (p .nonzero), p .leaders, p .agree)
+-- What they say of the directory: it is consistent.
+pub tests-consistent : (a : List ℕ) (key : ℕ) → putTests a key ≡ none
+    → (leadersValid a (depth a) (segments a) ≡ true) × (entriesAgree a (depth a) ≡ true)
+unfolding putTests keyTests directoryTests
+tests-consistent a key e =
+    let t₁ = unless-none (validHeader a) NoStore _ e in
+    let t₂ = unless-none (not (eqb key 0)) NoKey _ (t₁ .1) in
+    let t₃ = unless-none (leadersValid a (depth a) (segments a)) Broken _ (t₂ .1) in
+    (t₃ .0, unless-none (entriesAgree a (depth a)) Unmended none (t₃ .1) .0)
 
 -- A put's tests refuse with 1 to 4.
 pub tests-number : (a : List ℕ) (key : ℕ) (r : Refusal) → putTests a key ≡ some r → numberOf r ≤ 4

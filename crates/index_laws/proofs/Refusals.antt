@@ -41,7 +41,7 @@ use Rattle.index_laws.proofs.Doubling.{Doubled, after-doubling, entry-o
 use Rattle.index_laws.proofs.Updating.{all-made}
 use Rattle.index_laws.proofs.Halving.{keyCopies, keyUpdates, halving-parts, copies-elsewhere, copies-room, after-halving}
 use Rattle.index_laws.proofs.Split.{Splittable, Ready, ready, AfterSplit, after-split}
-use Rattle.index_laws.proofs.Put.{Passed, tests-number, put-refused, Cases, put-induction}
+use Rattle.index_laws.proofs.Put.{Passed, tests-consistent, tests-number, put-refused, Cases, put-induction}
 
 -- ---- A directory after a split is consistent
 
@@ -94,7 +94,7 @@ module _ (c : List ℕ) (key n : ℕ) (v : ValidHeader c) (new : n < segments c)
 
 module _ (a : List ℕ) (key n : ℕ) (ok : Passed a key) (s : Splittable a key n) where
   dir-before : Blocks (depth a) (segments a) (entryAt a (depth a))
-  dir-before = consistent-blocks a (depth a) (segments a) (ok .leaders) (ok .agree)
+  dir-before = let c = tests-consistent a key (ok .tests) in consistent-blocks a (depth a) (segments a) (c .0) (c .1)
 
   at-hand : Ready a key (apply (doublingFor a key) a)
   at-hand = ready a key (s .valid) (s .local-low) (s .local-room)

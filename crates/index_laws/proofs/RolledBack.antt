@@ -39,7 +39,7 @@ use Rattle.index_laws.proofs.Updating.{length-updating, leaders-not-mad
 use Rattle.index_laws.proofs.Halving.{keyCopies, keyUpdates, keyStart, halving-parts, copies-inside, updates-entries}
 use Rattle.index_laws.proofs.Slots.{hit-window}
 use Rattle.index_laws.proofs.Split.{Splittable, Ready, ready}
-use Rattle.index_laws.proofs.Put.{Passed, passed, choice-found, choice-into, choice-full, free-below, put-splittable, put-again, Cases, put-induction}
+use Rattle.index_laws.proofs.Put.{Passed, passed, tests-consistent, choice-found, choice-into, choice-full, free-below, put-splittable, put-again, Cases, put-induction}
 use Rattle.index_laws.proofs.Refusals.{dir-ready, tests-again}
 use Rattle.index_laws.proofs.Mended.{exec-front, exec-behind, not-word-0, Settled, Toward, toward-itself, mended-to, enough-mends}
 
@@ -196,7 +196,7 @@ module _ (a : List ℕ) (key n : ℕ) (ok : Passed a key) (s : Splittable a key 
       let h = ltb-true k (length ds) t in
       let all : upTo k ≡ k = omega (arith, before-entries) in
       rw (t, all, in-doubling k h)
-      (front-rolls a (exec ds k a) (s .valid) (consistent-blocks a (depth a) (segments a) (ok .leaders) (ok .agree)) (length-exec ds k a)
+      (front-rolls a (exec ds k a) (s .valid) (consistent-blocks a (depth a) (segments a) (tests-consistent a key (ok .tests) .0) (tests-consistent a key (ok .tests) .1)) (length-exec ds k a)
       (doubling-front k h)))
       (λ (t : ltb k (length ds) ≡ false).
       let h = ltb-false k (length ds) t in
@@ -401,7 +401,7 @@ module _ (a : List ℕ) (key value : ℕ) (ok : putTests a key ≡ none) (alone 
   -- Mending leaves it as it is.
   last-rolls : (m : ℕ) → Rolls a (exec due m a) (exec due m a)
   last-rolls m =
-      front-rolls a (exec due m a) (ok-here .valid) (consistent-blocks a (depth a) (segments a) (ok-here .leaders) (ok-here .agree))
+      front-rolls a (exec due m a) (ok-here .valid) (consistent-blocks a (depth a) (segments a) (tests-consistent a key (ok-here .tests) .0) (tests-consistent a key (ok-here .tests) .1))
       (length-exec due m a) (last-front m)
 
 behind-rolls : (a : List ℕ) (key value allowance : ℕ) → putTests a key ≡ none → (c : CutBehind a key allowance)
