@@ -46,86 +46,32 @@ full-at t c = choice-full-read (stood t (c .before .before .before .before)) _ (
 
 -- ---- The needs, in the order of the code
 
-put-place-to-change-requires : (t : ℕ) → put-lts.Need-place-to-change-requires (learnt t) (put-at t) put.Post
-put-place-to-change-requires t c κs = search needs
-
-put-enum-known-place : (t : ℕ) → put-lts.Need-enum-known-place (learnt t) (put-at t) put.Post
-put-enum-known-place t c = search needs
-
-put-enum-known-refusal : (t : ℕ) → put-lts.Need-enum-known-refusal (learnt t) (put-at t) put.Post
-put-enum-known-refusal t c = search needs
-
-put-without-store-requires : (t : ℕ) → put-lts.Need-without-store-requires (learnt t) (put-at t) put.Post
-put-without-store-requires t c κs = search needs
-
-put-same-length : (t : ℕ) → put-lts.Need-same-length (learnt t) (put-at t) put.Post
-put-same-length t c = search needs
-
 put-returns : (t : ℕ) → put-lts.Need-returns (learnt t) (put-at t) put.Post
 put-returns t c = answers-refused _ _ _ _ _ _ (refused-by _ _ _ _ (c .before .before .before .before .place-to-change .ensures) _ (c .before .before .refusal .given .1)) (c .without-store .ensures)
 
 put-choose-at-requires : (t : ℕ) → put-lts.Need-choose-at-requires (learnt t) (put-at t) put.Post
 put-choose-at-requires t c κs = stood t (c .before) .2
 
-put-enum-known-slot : (t : ℕ) → put-lts.Need-enum-known-slot (learnt t) (put-at t) put.Post
-put-enum-known-slot t c = search needs
-
 put-put-value-requires : (t : ℕ) → put-lts.Need-put-value-requires (learnt t) (put-at t) put.Post
 put-put-value-requires t c κs = (found-slot (stood t (c .before .before .before .before .before .before)) _ (c .before .before .before .before .choose-at .ensures) (c .before .before .slot .given .1), (stood t (c .before .before .before .before .before .before)) .2)
-
-put-same-length-2 : (t : ℕ) → put-lts.Need-same-length-2 (learnt t) (put-at t) put.Post
-put-same-length-2 t c = search needs
 
 put-returns-2 : (t : ℕ) → put-lts.Need-returns-2 (learnt t) (put-at t) put.Post
 put-returns-2 t c = answers-found (stood t (c .before .before .before .before .before .before .before .before .before)) _ (c .before .before .before .before .before .before .before .choose-at .ensures) _ _ _ _ (c .before .before .before .before .before .slot .given .1) (c .before .before .put-value .ensures)
 
-put-enum-known-slot-2 : (t : ℕ) → put-lts.Need-enum-known-slot-2 (learnt t) (put-at t) put.Post
-put-enum-known-slot-2 t c = search needs
-
 put-put-record-requires : (t : ℕ) → put-lts.Need-put-record-requires (learnt t) (put-at t) put.Post
 put-put-record-requires t c κs = (into-slot (stood t (c .before .before .before .before .before .before)) _ (c .before .before .before .before .choose-at .ensures) (c .before .before .slot2 .given .1), (stood t (c .before .before .before .before .before .before)) .2)
-
-put-same-length-3 : (t : ℕ) → put-lts.Need-same-length-3 (learnt t) (put-at t) put.Post
-put-same-length-3 t c = search needs
 
 put-returns-3 : (t : ℕ) → put-lts.Need-returns-3 (learnt t) (put-at t) put.Post
 put-returns-3 t c = answers-into (stood t (c .before .before .before .before .before .before .before .before .before)) _ (c .before .before .before .before .before .before .before .choose-at .ensures) _ _ _ _ (c .before .before .before .before .before .slot2 .given .1) (c .before .before .put-record .ensures)
 
-put-enum-told : (t : ℕ) → put-lts.Need-enum-told (learnt t) (put-at t) put.Post
-put-enum-told t c = search needs
-
 put-split-requires : (t : ℕ) → put-lts.Need-split-requires (learnt t) (put-at t) put.Post
 put-split-requires t c κs = stood t (c .before .before .before .before .before) .2
-
-put-enum-known-due : (t : ℕ) → put-lts.Need-enum-known-due (learnt t) (put-at t) put.Post
-put-enum-known-due t c = search needs
-
-put-enum-told-2 : (t : ℕ) → put-lts.Need-enum-told-2 (learnt t) (put-at t) put.Post
-put-enum-told-2 t c = search needs
-
-put-without-store-requires-2 : (t : ℕ) → put-lts.Need-without-store-requires-2 (learnt t) (put-at t) put.Post
-put-without-store-requires-2 t c κs = search needs
-
-put-same-length-4 : (t : ℕ) → put-lts.Need-same-length-4 (learnt t) (put-at t) put.Post
-put-same-length-4 t c = search needs
 
 put-returns-4 : (t : ℕ) → put-lts.Need-returns-4 (learnt t) (put-at t) put.Post
 put-returns-4 t c = answers-too-deep (stood t (c .before .before .before .before .before .before .before .before .before .before .before)) (full-at t (c .before .before .before .before .before .before .before)) _ _ _ (c .before .before .before .before .before .split .ensures) (c .before .enum-told2 .given .1) _ _ (c .without-store2 .ensures)
 
-put-enum-told-3 : (t : ℕ) → put-lts.Need-enum-told-3 (learnt t) (put-at t) put.Post
-put-enum-told-3 t c = search needs
-
-put-without-store-requires-3 : (t : ℕ) → put-lts.Need-without-store-requires-3 (learnt t) (put-at t) put.Post
-put-without-store-requires-3 t c κs = search needs
-
-put-same-length-5 : (t : ℕ) → put-lts.Need-same-length-5 (learnt t) (put-at t) put.Post
-put-same-length-5 t c = search needs
-
 put-returns-5 : (t : ℕ) → put-lts.Need-returns-5 (learnt t) (put-at t) put.Post
 put-returns-5 t c = answers-no-segment (stood t (c .before .before .before .before .before .before .before .before .before .before .before)) (full-at t (c .before .before .before .before .before .before .before)) _ _ _ (c .before .before .before .before .before .split .ensures) (c .before .enum-told3 .given .1) _ _ (c .without-store3 .ensures)
-
-put-same-length-6 : (t : ℕ) → put-lts.Need-same-length-6 (learnt t) (put-at t) put.Post
-put-same-length-6 t c = search needs
 
 put-returns-6 : (t : ℕ) → put-lts.Need-returns-6 (learnt t) (put-at t) put.Post
 put-returns-6 t c = answers-cut (split-of (stood t (c .before .before .before .before .before .before .before .before .before .before .before .before)) (full-at t (c .before .before .before .before .before .before .before .before)) _ _ _ (c .before .before .before .before .before .before .split .ensures) (c .before .before .due .given .1)) _ (omega (arith, c .if1 .taken))
@@ -136,9 +82,6 @@ put-put-requires t c κs = (rw (c .before .before .before .before .before .befor
 put-add-stores : (t : ℕ) → put-lts.Need-add-stores (learnt t) (put-at t) put.Post
 put-add-stores t c = omega (arith, c .before .before .before .before .before .if1 .left, rest-allowed (split-of (stood t (c .before .before .before .before .before .before .before .before .before .before .before .before .before .before .before .before .before)) (full-at t (c .before .before .before .before .before .before .before .before .before .before .before .before .before)) _ _ _ (c .before .before .before .before .before .before .before .before .before .before .before .split .ensures) (c .before .before .before .before .before .before .before .due .given .1)) (c .before .before .before .before .before .before .before .before .before .before .before .before .before .before .before .before .before .before .before .before .before .before .before .args .value) (omega (arith, c .before .before .before .before .before .if1 .left)) (c .before .before .before .put .ensures), c .before .before .before .before .before .before .before .before .before .before .before .before .before .before .before .before .before .before .before .before .before .before .before .good)
 
-put-same-length-7 : (t : ℕ) → put-lts.Need-same-length-7 (learnt t) (put-at t) put.Post
-put-same-length-7 t c = search needs
-
 put-returns-7 : (t : ℕ) → put-lts.Need-returns-7 (learnt t) (put-at t) put.Post
 put-returns-7 t c = answers-again (split-of (stood t (c .before .before .before .before .before .before .before .before .before .before .before .before .before .before .before .before .before)) (full-at t (c .before .before .before .before .before .before .before .before .before .before .before .before .before)) _ _ _ (c .before .before .before .before .before .before .before .before .before .before .before .split .ensures) (c .before .before .before .before .before .before .before .due .given .1)) _ (omega (arith, c .before .before .before .before .before .if1 .left)) (c .before .before .before .put .ensures)
 
@@ -146,35 +89,35 @@ pub +put-spec : {M : Type 1} → statement M
 +put-spec = close μ-put λ t. put-lts.spec (learnt t)
     (put-at t)
     put.Post
-    (put-place-to-change-requires t)
-    (put-enum-known-place t)
-    (put-enum-known-refusal t)
-    (put-without-store-requires t)
-    (put-same-length t)
+    (λ c κs. search needs)
+    (λ c. search needs)
+    (λ c. search needs)
+    (λ c κs. search needs)
+    (λ c. search needs)
     (put-returns t)
     (put-choose-at-requires t)
-    (put-enum-known-slot t)
+    (λ c. search needs)
     (put-put-value-requires t)
-    (put-same-length-2 t)
+    (λ c. search needs)
     (put-returns-2 t)
-    (put-enum-known-slot-2 t)
+    (λ c. search needs)
     (put-put-record-requires t)
-    (put-same-length-3 t)
+    (λ c. search needs)
     (put-returns-3 t)
-    (put-enum-told t)
+    (λ c. search needs)
     (put-split-requires t)
-    (put-enum-known-due t)
-    (put-enum-told-2 t)
-    (put-without-store-requires-2 t)
-    (put-same-length-4 t)
+    (λ c. search needs)
+    (λ c. search needs)
+    (λ c κs. search needs)
+    (λ c. search needs)
     (put-returns-4 t)
-    (put-enum-told-3 t)
-    (put-without-store-requires-3 t)
-    (put-same-length-5 t)
+    (λ c. search needs)
+    (λ c κs. search needs)
+    (λ c. search needs)
     (put-returns-5 t)
-    (put-same-length-6 t)
+    (λ c. search needs)
     (put-returns-6 t)
     (put-put-requires t)
     (put-add-stores t)
-    (put-same-length-7 t)
+    (λ c. search needs)
     (put-returns-7 t)

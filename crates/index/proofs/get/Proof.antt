@@ -10,33 +10,12 @@ use borrow.Author.Needs.{needs}
 use Rattle.index.proofs.get.Statement.{statement}
 use Rattle.index.proofs.get.Tie as tie
 
-place-to-read-requires : tie.Need-place-to-read-requires
-place-to-read-requires c κs = search needs
-
-enum-known-place : tie.Need-enum-known-place
-enum-known-place c = search needs
-
-enum-known-refusal : tie.Need-enum-known-refusal
-enum-known-refusal c = search needs
-
-without-store-requires : tie.Need-without-store-requires
-without-store-requires c κs = search needs
-
 returns : tie.Need-returns
 returns c =
     get-refused _ _ _ _ (refused-by _ _ _ _ (c .before .before .before .before .place-to-read .ensures) _ (c .before .before .refusal .given .1)) (ap saidBy (c .without-store .ensures .0), c .without-store .ensures .1)
 
 find-at-requires : tie.Need-find-at-requires
 find-at-requires c κs = place-bounds ((stands _ _ _ _ (c .before .before .before .place-to-read .ensures) _ (c .before .place .given .1)) .2) .whole
-
-enum-known-slot : tie.Need-enum-known-slot
-enum-known-slot c = search needs
-
-enum-told : tie.Need-enum-told
-enum-told c = search needs
-
-without-store-requires-2 : tie.Need-without-store-requires-2
-without-store-requires-2 c κs = search needs
 
 returns-2 : tie.Need-returns-2
 returns-2 c =
@@ -73,9 +52,6 @@ shared-slice-read-t18 c =
     let i = found-inside (x .2) _ (c .before .before .before .before .find-at .ensures) _ (c .before .before .slot .given .1) in
     omega arith
 
-without-store-requires-3 : tie.Need-without-store-requires-3
-without-store-requires-3 c κs = search needs
-
 returns-3 : tie.Need-returns-3
 returns-3 c =
     let x = stands _ _ _ _ (c .before .before .before .before .before .before .before .before .before .place-to-read .ensures) _ (c .before .before .before .before .before .before .before .place .given .1) in
@@ -85,20 +61,20 @@ pub get-spec : {M : Type 1} → statement M
 get-spec =
     tie.close
     (tie.spec
-    place-to-read-requires
-    enum-known-place
-    enum-known-refusal
-    without-store-requires
+    (λ c κs. search needs)
+    (λ c. search needs)
+    (λ c. search needs)
+    (λ c κs. search needs)
     returns
     find-at-requires
-    enum-known-slot
-    enum-told
-    without-store-requires-2
+    (λ c. search needs)
+    (λ c. search needs)
+    (λ c κs. search needs)
     returns-2
     mul-t13
     add-t14
     add-t15
     mul-t16
     shared-slice-read-t18
-    without-store-requires-3
+    (λ c κs. search needs)
     returns-3)

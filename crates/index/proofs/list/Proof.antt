@@ -10,18 +10,6 @@ use Rattle.index.proofs.Listings.{listable-as, listable-refused, list-r
 use Rattle.index.proofs.list.Statement.{statement}
 use Rattle.index.proofs.list.Tie as tie
 
-header-to-list-requires : tie.Need-header-to-list-requires
-header-to-list-requires c κs = search needs
-
-enum-known-header : tie.Need-enum-known-header
-enum-known-header c = search needs
-
-enum-known-refusal : tie.Need-enum-known-refusal
-enum-known-refusal c = search needs
-
-without-store-requires : tie.Need-without-store-requires
-without-store-requires c κs = search needs
-
 returns : tie.Need-returns
 returns c =
     list-refused _ _ _ _ (listable-refused _ _ (c .before .before .before .before .header-to-list .ensures) _ (c .before .before .refusal .given .1))
@@ -31,12 +19,6 @@ count-records-requires : tie.Need-count-records-requires
 count-records-requires c κs =
     let h = listable-as _ _ (c .before .before .before .header-to-list .ensures) _ (c .before .header .given .1) in
     (h .0, listing-passed _ _ (h .1) .leaders)
-
-mul-if1 : tie.Need-mul-if1
-mul-if1 c = search needs
-
-without-store-requires-2 : tie.Need-without-store-requires-2
-without-store-requires-2 c κs = search needs
 
 returns-2 : tie.Need-returns-2
 returns-2 c =
@@ -48,12 +30,6 @@ write-records-requires : tie.Need-write-records-requires
 write-records-requires c κs =
     let h = listable-as _ _ (c .before .before .before .before .before .before .header-to-list .ensures) _ (c .before .before .before .before .header .given .1) in
     ((h .0, listing-passed _ _ (h .1) .leaders), rw (c .before .before .count-records .ensures .0) at (c .before .if1 .left))
-
-without-store-requires-3 : tie.Need-without-store-requires-3
-without-store-requires-3 c κs = search needs
-
-same-length : tie.Need-same-length
-same-length c = search needs
 
 returns-3 : tie.Need-returns-3
 returns-3 c =
@@ -67,16 +43,16 @@ pub list-spec : {M : Type 1} → statement M
 list-spec =
     tie.close
     (tie.spec
-    header-to-list-requires
-    enum-known-header
-    enum-known-refusal
-    without-store-requires
+    (λ c κs. search needs)
+    (λ c. search needs)
+    (λ c. search needs)
+    (λ c κs. search needs)
     returns
     count-records-requires
-    mul-if1
-    without-store-requires-2
+    (λ c. search needs)
+    (λ c κs. search needs)
     returns-2
     write-records-requires
-    without-store-requires-3
-    same-length
+    (λ c κs. search needs)
+    (λ c. search needs)
     returns-3)

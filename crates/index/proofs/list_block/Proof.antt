@@ -13,18 +13,6 @@ use Rattle.index.proofs.Listings.{listable-as, listable-refused, found-
 use Rattle.index.proofs.list_block.Statement.{statement}
 use Rattle.index.proofs.list_block.Tie as tie
 
-header-to-list-requires : tie.Need-header-to-list-requires
-header-to-list-requires c κs = search needs
-
-enum-known-header : tie.Need-enum-known-header
-enum-known-header c = search needs
-
-enum-known-refusal : tie.Need-enum-known-refusal
-enum-known-refusal c = search needs
-
-without-store-requires : tie.Need-without-store-requires
-without-store-requires c κs = search needs
-
 returns : tie.Need-returns
 returns c =
     block-refused _ _ _ _ _ (listable-refused _ _ (c .before .before .before .before .header-to-list .ensures) _ (c .before .before .refusal .given .1))
@@ -32,15 +20,6 @@ returns c =
 
 find-block-requires : tie.Need-find-block-requires
 find-block-requires c κs = listable-as _ _ (c .before .before .before .header-to-list .ensures) _ (c .before .header .given .1)
-
-enum-known-place : tie.Need-enum-known-place
-enum-known-place c = search needs
-
-enum-told : tie.Need-enum-told
-enum-told c = search needs
-
-without-store-requires-2 : tie.Need-without-store-requires-2
-without-store-requires-2 c κs = search needs
 
 returns-2 : tie.Need-returns-2
 returns-2 c =
@@ -53,12 +32,6 @@ count-block-requires c κs =
     let h = listable-as _ _ (c .before .before .before .before .before .before .before .header-to-list .ensures) _ (c .before .before .before .before .before .header .given .1) in
     let f = found-at _ _ _ (c .before .before .before .find-block .ensures) _ (c .before .place .given .1) in
     place-inside (h .0) (listing-passed _ _ (h .1) .leaders) _ (f .0) _ (f .1)
-
-mul-if1 : tie.Need-mul-if1
-mul-if1 c = search needs
-
-without-store-requires-3 : tie.Need-without-store-requires-3
-without-store-requires-3 c κs = search needs
 
 returns-3 : tie.Need-returns-3
 returns-3 c =
@@ -79,12 +52,6 @@ following-requires c κs =
     let h = listable-as _ _ (c .before .before .before .before .before .before .before .before .before .before .before .before .before .header-to-list .ensures) _ (c .before .before .before .before .before .before .before .before .before .before .before .header .given .1) in
     bounds (h .0) .depth-high
 
-without-store-requires-4 : tie.Need-without-store-requires-4
-without-store-requires-4 c κs = search needs
-
-same-length : tie.Need-same-length
-same-length c = search needs
-
 returns-4 : tie.Need-returns-4
 returns-4 c =
     let h = listable-as _ _ (c .before .before .before .before .before .before .before .before .before .before .before .before .before .before .before .header-to-list .ensures) _ (c .before .before .before .before .before .before .before .before .before .before .before .before .before .header .given .1) in
@@ -100,22 +67,22 @@ pub list-block-spec : {M : Type 1} → statement M
 list-block-spec =
     tie.close
     (tie.spec
-    header-to-list-requires
-    enum-known-header
-    enum-known-refusal
-    without-store-requires
+    (λ c κs. search needs)
+    (λ c. search needs)
+    (λ c. search needs)
+    (λ c κs. search needs)
     returns
     find-block-requires
-    enum-known-place
-    enum-told
-    without-store-requires-2
+    (λ c. search needs)
+    (λ c. search needs)
+    (λ c κs. search needs)
     returns-2
     count-block-requires
-    mul-if1
-    without-store-requires-3
+    (λ c. search needs)
+    (λ c κs. search needs)
     returns-3
     write-block-requires
     following-requires
-    without-store-requires-4
-    same-length
+    (λ c κs. search needs)
+    (λ c. search needs)
     returns-4)

@@ -9,36 +9,12 @@ use borrow.Author.Needs.{needs}
 use Rattle.index.proofs.remove.Statement.{statement}
 use Rattle.index.proofs.remove.Tie as tie
 
-place-to-change-requires : tie.Need-place-to-change-requires
-place-to-change-requires c κs = search needs
-
-enum-known-place : tie.Need-enum-known-place
-enum-known-place c = search needs
-
-enum-known-refusal : tie.Need-enum-known-refusal
-enum-known-refusal c = search needs
-
-without-store-requires : tie.Need-without-store-requires
-without-store-requires c κs = search needs
-
-same-length : tie.Need-same-length
-same-length c = search needs
-
 returns : tie.Need-returns
 returns c =
     remove-refused _ _ _ _ _ (refused-by _ _ _ _ (c .before .before .before .before .place-to-change .ensures) _ (c .before .before .refusal .given .1)) (ap saidBy (c .without-store .ensures .0), c .without-store .ensures .1)
 
 choose-at-requires : tie.Need-choose-at-requires
 choose-at-requires c κs = (stands _ _ _ _ (c .before .before .before .before .place-to-change .ensures) _ (c .before .before .place .given .1)) .2
-
-enum-known-slot : tie.Need-enum-known-slot
-enum-known-slot c = search needs
-
-without-store-requires-2 : tie.Need-without-store-requires-2
-without-store-requires-2 c κs = search needs
-
-same-length-2 : tie.Need-same-length-2
-same-length-2 c = search needs
 
 returns-2 : tie.Need-returns-2
 returns-2 c =
@@ -63,12 +39,6 @@ store-word-requires c κs =
     let i = chosen-inside (x .2) _ (c .before .before .before .before .choose-at .ensures) _ (c .before .before .slot .given .1) in
     (omega arith, omega arith)
 
-after-stores-requires : tie.Need-after-stores-requires
-after-stores-requires c κs = search needs
-
-same-length-3 : tie.Need-same-length-3
-same-length-3 c = search needs
-
 returns-3 : tie.Need-returns-3
 returns-3 c =
     let x = stands _ _ _ _ (c .before .before .before .before .before .before .before .before .before .before .before .before .before .place-to-change .ensures) _ (c .before .before .before .before .before .before .before .before .before .before .before .place .given .1) in
@@ -78,20 +48,20 @@ pub remove-spec : {M : Type 1} → statement M
 remove-spec =
     tie.close
     (tie.spec
-    place-to-change-requires
-    enum-known-place
-    enum-known-refusal
-    without-store-requires
-    same-length
+    (λ c κs. search needs)
+    (λ c. search needs)
+    (λ c. search needs)
+    (λ c κs. search needs)
+    (λ c. search needs)
     returns
     choose-at-requires
-    enum-known-slot
-    without-store-requires-2
-    same-length-2
+    (λ c. search needs)
+    (λ c κs. search needs)
+    (λ c. search needs)
     returns-2
     mul-store-word
     add-store-word
     store-word-requires
-    after-stores-requires
-    same-length-3
+    (λ c κs. search needs)
+    (λ c. search needs)
     returns-3)

@@ -35,9 +35,6 @@ write-byte-requires c κs =
       c .before .before .before .write-field2 .ensures .behind,
     )
 
-same-length : tie.Need-same-length
-same-length c = search needs
-
 returns : tie.Need-returns
 returns c =
     line-written _ _ (omega (arith, c .before .before .before .before .before .before .before .before .before .before .before .before .before .before .before .before .before .pre)) _ _ _ _ _ _ _ _ _ _ _ (c .before .before .before .before .before .before .before .before .before .before .before .before .before .before .write-name .ensures) (c .before .before .before .before .before .before .before .before .before .before .write-field .ensures) (c .before .before .before .before .before .before .write-field2 .ensures) (c .before .before .write-byte .ensures)
@@ -50,5 +47,5 @@ write-line-spec =
     write-field-requires
     write-field-requires-2
     write-byte-requires
-    same-length
+    (λ c. search needs)
     returns)

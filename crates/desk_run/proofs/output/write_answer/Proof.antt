@@ -15,12 +15,6 @@ use Rattle.desk_text.proofs.Texts.{length-reply}
 use Rattle.desk_run.proofs.output.write_answer.Statement.{statement}
 use Rattle.desk_run.proofs.output.write_answer.Tie as tie
 
-cast-stores : tie.Need-cast-stores
-cast-stores c = search needs
-
-write-head-requires : tie.Need-write-head-requires
-write-head-requires c κs = search needs
-
 write-field-requires : tie.Need-write-field-requires
 write-field-requires c κs =
     omega (arith, length-reply (c .before .before .before .before .before .before .before .args .answer .reply), length-decimal (c .before .before .before .before .before .before .before .args .answer .stores), c .before .before .before .write-head .ensures .behind)
@@ -28,9 +22,6 @@ write-field-requires c κs =
 write-end-requires : tie.Need-write-end-requires
 write-end-requires c κs =
     omega (arith, length-reply (c .before .before .before .before .before .before .before .before .before .before .before .args .answer .reply), length-decimal (c .before .before .before .before .before .before .before .before .before .before .before .args .answer .stores), c .before .before .before .before .before .before .before .write-head .ensures .behind, c .before .before .before .write-field .ensures .behind)
-
-same-length : tie.Need-same-length
-same-length c = search needs
 
 returns : tie.Need-returns
 unfolding answerLine
@@ -45,9 +36,9 @@ pub write-answer-spec : {M : Type 1} → statement M
 write-answer-spec =
     tie.close
     (tie.spec
-    cast-stores
-    write-head-requires
+    (λ c. search needs)
+    (λ c κs. search needs)
     write-field-requires
     write-end-requires
-    same-length
+    (λ c. search needs)
     returns)

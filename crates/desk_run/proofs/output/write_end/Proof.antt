@@ -10,15 +10,6 @@ use Rattle.desk_text.proofs.Texts.{end-value, end-plain}
 use Rattle.desk_run.proofs.output.write_end.Statement.{statement}
 use Rattle.desk_run.proofs.output.write_end.Tie as tie
 
-enum-known-reply : tie.Need-enum-known-reply
-enum-known-reply c = search needs
-
-write-byte-requires : tie.Need-write-byte-requires
-write-byte-requires c κs = search needs
-
-same-length : tie.Need-same-length
-same-length c = search needs
-
 returns : tie.Need-returns
 returns c =
     rw (end-plain _ (c .before .before .before .before .match .keys2)) (c .before .before .write-byte .ensures)
@@ -31,9 +22,6 @@ write-byte-requires-2 : tie.Need-write-byte-requires-2
 write-byte-requires-2 c κs =
     omega (arith, length-decimal (c .before .before .before .before .before .before .reply .given .0 .0), c .before .before .before .write-field .ensures .behind)
 
-same-length-2 : tie.Need-same-length-2
-same-length-2 c = search needs
-
 returns-2 : tie.Need-returns-2
 returns-2 c =
     rw (c .before .before .before .before .before .before .before .before .before .reply .given .1, end-value (c .before .before .before .before .before .before .before .before .before .reply .given .0 .0))
@@ -43,11 +31,11 @@ pub write-end-spec : {M : Type 1} → statement M
 write-end-spec =
     tie.close
     (tie.spec
-    enum-known-reply
-    write-byte-requires
-    same-length
+    (λ c. search needs)
+    (λ c κs. search needs)
+    (λ c. search needs)
     returns
     write-field-requires
     write-byte-requires-2
-    same-length-2
+    (λ c. search needs)
     returns-2)

@@ -44,9 +44,6 @@ store-word-requires-3 c κs =
       omega (arith, e .count, k .count, l .count, length-each-ones (λ j. store (c .before .before .before .before .before .before .segment-base .result + 2 * j) 0) 64),
     )
 
-same-length : tie.Need-same-length
-same-length c = search needs
-
 returns : tie.Need-returns
 returns c =
     format-stores _ _ _ _ _ _ _ _ _ _ _ _ _ _ (c .before .before .before .before .before .before .before .before .before .segment-base .ensures) (c .before .before .before .before .pack-header .ensures) (c .before .before .before .before .before .before .before .before .before .before .before .before .before .before .before .before .store-word .ensures)
@@ -62,5 +59,5 @@ store-empty-spec =
     clear-keys-requires
     pack-header-requires
     store-word-requires-3
-    same-length
+    (λ c. search needs)
     returns)

@@ -14,12 +14,6 @@ add-count-live c = omega (arith, c .before .pre .0)
 mul-count-live : tie.Need-mul-count-live
 mul-count-live c = omega (arith, c .before .pre .0)
 
-sub-count-live : tie.Need-sub-count-live
-sub-count-live c = search needs
-
-part-count-live-start : tie.Need-part-count-live-start
-part-count-live-start c = search needs
-
 part-count-live-end : tie.Need-part-count-live-end
 part-count-live-end c = omega (arith, c .before .pre .0)
 
@@ -42,8 +36,8 @@ count-block-spec =
     (tie.spec
     add-count-live
     mul-count-live
-    sub-count-live
-    part-count-live-start
+    (λ c. search needs)
+    (λ c. search needs)
     part-count-live-end
     count-live-requires
     returns)

@@ -25,9 +25,6 @@ shared-slice-read-local-depth-of : tie.Need-shared-slice-read-local-depth-of
 shared-slice-read-local-depth-of c =
     let b = bounds (c .before .before .before .before .pre .0) in omega (arith, c .before .if1 .left, c .before .before .pow2 .ensures)
 
-local-depth-of-requires : tie.Need-local-depth-of-requires
-local-depth-of-requires c κs = search needs
-
 block-width-requires : tie.Need-block-width-requires
 block-width-requires c κs =
     let p = c .before .before .before .before .before .pre in
@@ -68,7 +65,7 @@ find-block-spec =
     add-local-depth-of
     mul-local-depth-of
     shared-slice-read-local-depth-of
-    local-depth-of-requires
+    (λ c κs. search needs)
     block-width-requires
     sub-if2
     returns-2

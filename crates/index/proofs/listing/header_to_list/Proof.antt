@@ -7,29 +7,11 @@ use Rattle.index.proofs.Listings.{front-no-store, front-directory}
 use Rattle.index.proofs.listing.header_to_list.Statement.{statement}
 use Rattle.index.proofs.listing.header_to_list.Tie as tie
 
-read-header-requires : tie.Need-read-header-requires
-read-header-requires c κs = search needs
-
-enum-known-header : tie.Need-enum-known-header
-enum-known-header c = search needs
-
-enum-told : tie.Need-enum-told
-enum-told c = search needs
-
 returns : tie.Need-returns
 returns c = front-no-store _ (header-not-valid _ _ (c .before .before .read-header .ensures) (c .enum-told .given .1))
 
 scan-requires : tie.Need-scan-requires
 scan-requires c κs = header-valid _ _ (c .before .before .before .read-header .ensures) _ (c .before .header .given .1)
-
-enum-told-2 : tie.Need-enum-told-2
-enum-told-2 c = search needs
-
-enum-told-3 : tie.Need-enum-told-3
-enum-told-3 c = search needs
-
-enum-told-4 : tie.Need-enum-told-4
-enum-told-4 c = search needs
 
 returns-2 : tie.Need-returns-2
 returns-2 c =
@@ -50,14 +32,14 @@ pub header-to-list-spec : {M : Type 1} → statement M
 header-to-list-spec =
     tie.close
     (tie.spec
-    read-header-requires
-    enum-known-header
-    enum-told
+    (λ c κs. search needs)
+    (λ c. search needs)
+    (λ c. search needs)
     returns
     scan-requires
-    enum-told-2
-    enum-told-3
-    enum-told-4
+    (λ c. search needs)
+    (λ c. search needs)
+    (λ c. search needs)
     returns-2
     returns-3
     returns-4)

@@ -21,12 +21,6 @@ mul-entry c = let b = bounds (c .before .before .pre .0 .0) in omega (arith, lea
 shared-slice-read-entry : tie.Need-shared-slice-read-entry
 shared-slice-read-entry c = let b = bounds (c .before .before .before .pre .0 .0) in omega (arith, leader-below (c .before .before .before .pre .0 .0) (c .before .before .before .pre .0 .1) _ (c .before .before .before .pre .1))
 
-local-depth-of-requires : tie.Need-local-depth-of-requires
-local-depth-of-requires c κs = search needs
-
-segment-of-requires : tie.Need-segment-of-requires
-segment-of-requires c κs = search needs
-
 segment-base-requires : tie.Need-segment-base-requires
 segment-base-requires c κs =
     let b = bounds (c .before .before .before .before .before .pre .0 .0) in
@@ -70,8 +64,8 @@ read-block-spec =
     add-at
     mul-entry
     shared-slice-read-entry
-    local-depth-of-requires
-    segment-of-requires
+    (λ c κs. search needs)
+    (λ c κs. search needs)
     segment-base-requires
     block-bits-requires
     block-width-requires

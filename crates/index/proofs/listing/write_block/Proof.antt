@@ -12,12 +12,6 @@ add-write-live c = omega (arith, c .before .before .pre .0 .0)
 mul-write-live : tie.Need-mul-write-live
 mul-write-live c = omega (arith, c .before .before .pre .0 .0)
 
-sub-write-live : tie.Need-sub-write-live
-sub-write-live c = search needs
-
-part-write-live-start : tie.Need-part-write-live-start
-part-write-live-start c = search needs
-
 part-write-live-end : tie.Need-part-write-live-end
 part-write-live-end c = omega (arith, c .before .before .pre .0 .0)
 
@@ -26,9 +20,6 @@ write-live-requires c κs =
     let p = c .before .before .before .before .pre in
     rw (span (c .before .before .before .before .args .place .base))
     (part-length _ _ (p .0 .0), p .0 .1, rw (part-records _ _ (p .0 .0) _ _) (p .1))
-
-same-length : tie.Need-same-length
-same-length c = search needs
 
 returns : tie.Need-returns
 returns c =
@@ -41,9 +32,9 @@ write-block-spec =
     (tie.spec
     add-write-live
     mul-write-live
-    sub-write-live
-    part-write-live-start
+    (λ c. search needs)
+    (λ c. search needs)
     part-write-live-end
     write-live-requires
-    same-length
+    (λ c. search needs)
     returns)

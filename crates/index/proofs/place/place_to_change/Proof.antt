@@ -7,15 +7,6 @@ use borrow.Author.Needs.{needs}
 use Rattle.index.proofs.place.place_to_change.Statement.{statement}
 use Rattle.index.proofs.place.place_to_change.Tie as tie
 
-read-header-requires : tie.Need-read-header-requires
-read-header-requires c κs = search needs
-
-enum-known-header : tie.Need-enum-known-header
-enum-known-header c = search needs
-
-enum-told : tie.Need-enum-told
-enum-told c = search needs
-
 returns : tie.Need-returns
 returns c = change-no-store _ _ (header-not-valid _ _ (c .before .before .read-header .ensures) (c .enum-told .given .1))
 
@@ -29,15 +20,6 @@ place-of-requires c κs = header-valid _ _ (c .before .before .before .before .r
 
 scan-requires : tie.Need-scan-requires
 scan-requires c κs = header-valid _ _ (c .before .before .before .before .before .read-header .ensures) _ (c .before .before .before .header .given .1)
-
-enum-told-2 : tie.Need-enum-told-2
-enum-told-2 c = search needs
-
-enum-told-3 : tie.Need-enum-told-3
-enum-told-3 c = search needs
-
-enum-told-4 : tie.Need-enum-told-4
-enum-told-4 c = search needs
 
 returns-3 : tie.Need-returns-3
 returns-3 c =
@@ -61,16 +43,16 @@ pub place-to-change-spec : {M : Type 1} → statement M
 place-to-change-spec =
     tie.close
     (tie.spec
-    read-header-requires
-    enum-known-header
-    enum-told
+    (λ c κs. search needs)
+    (λ c. search needs)
+    (λ c. search needs)
     returns
     returns-2
     place-of-requires
     scan-requires
-    enum-told-2
-    enum-told-3
-    enum-told-4
+    (λ c. search needs)
+    (λ c. search needs)
+    (λ c. search needs)
     returns-3
     returns-4
     returns-5)

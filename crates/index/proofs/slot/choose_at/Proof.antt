@@ -15,12 +15,6 @@ add-choose c = let p = place-bounds (c .before .pre) in omega arith
 mul-choose : tie.Need-mul-choose
 mul-choose c = let p = place-bounds (c .before .pre) in omega arith
 
-sub-choose : tie.Need-sub-choose
-sub-choose c = search needs
-
-part-choose-start : tie.Need-part-choose-start
-part-choose-start c = search needs
-
 part-choose-end : tie.Need-part-choose-end
 part-choose-end c = let p = place-bounds (c .before .pre) in omega arith
 
@@ -39,8 +33,8 @@ choose-at-spec =
     (tie.spec
     add-choose
     mul-choose
-    sub-choose
-    part-choose-start
+    (λ c. search needs)
+    (λ c. search needs)
     part-choose-end
     choose-requires
     returns)

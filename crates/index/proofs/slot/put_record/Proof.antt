@@ -9,9 +9,6 @@ use borrow.Author.Needs.{needs}
 use Rattle.index.proofs.slot.put_record.Statement.{statement}
 use Rattle.index.proofs.slot.put_record.Tie as tie
 
-mul-key-at : tie.Need-mul-key-at
-mul-key-at c = search needs
-
 add-key-at : tie.Need-add-key-at
 add-key-at c = let p = place-bounds (c .before .before .pre .1) in omega (arith, c .before .before .pre .0)
 
@@ -27,12 +24,6 @@ store-word-requires-2 c κs =
     let kept = c .before .before .before .store-word .kept .0 in
     (omega (arith, c .before .before .before .before .before .before .before .pre .0), omega (arith, c .before .before .before .store-word .ensures .count))
 
-after-stores-requires : tie.Need-after-stores-requires
-after-stores-requires c κs = search needs
-
-same-length : tie.Need-same-length
-same-length c = search needs
-
 returns : tie.Need-returns
 returns c =
     let first = value-stored _ _ _ _ _ _ _ _ (c .before .before .before .before .before .before .before .store-word .ensures) in
@@ -42,11 +33,11 @@ pub put-record-spec : {M : Type 1} → statement M
 put-record-spec =
     tie.close
     (tie.spec
-    mul-key-at
+    (λ c. search needs)
     add-key-at
     add-value-at
     store-word-requires
     store-word-requires-2
-    after-stores-requires
-    same-length
+    (λ c κs. search needs)
+    (λ c. search needs)
     returns)

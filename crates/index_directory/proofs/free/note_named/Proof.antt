@@ -20,9 +20,6 @@ abbrev μ-loop : tie.MeasureT-loop
 pow2-requires : tie.Need-pow2-requires Inv-loop μ-loop
 pow2-requires c κs = let b = bounds (c .before .before .pre .0) in omega arith
 
-cast-segments : tie.Need-cast-segments Inv-loop μ-loop
-cast-segments c = search needs
-
 loop-holds : tie.Need-loop-holds Inv-loop μ-loop
 loop-holds c =
     let p = c .before .before .before .before .pre in
@@ -42,12 +39,6 @@ note-entry-requires c κs =
     let b = bounds (c .before .before .before .before .before .before .before .before .pre .0) in
     (c .before .before .before .loop .inv .1, omega arith)
 
-add-i : tie.Need-add-i Inv-loop μ-loop
-add-i c = search needs
-
-loop-less : tie.Need-loop-less Inv-loop μ-loop
-loop-less c = search needs
-
 loop-again : tie.Need-loop-again Inv-loop μ-loop
 loop-again c =
     let d = c .before .before .before .before .before .before .before .before .before .before .before .pre .0 in
@@ -59,9 +50,6 @@ loop-again c =
           (rw (← entry-word _ _ d (c .before .before .before .before .before .before .before .before .pow2 .ensures), d .segments-read)
           (c .before .before .note-entry .ensures)),
     )
-
-same-length : tie.Need-same-length Inv-loop μ-loop
-same-length c = search needs
 
 returns : tie.Need-returns Inv-loop μ-loop
 returns c =
@@ -76,14 +64,14 @@ note-named-spec =
     Inv-loop
     μ-loop
     pow2-requires
-    cast-segments
+    (λ c. search needs)
     loop-holds
     add-note-entry
     mul-note-entry
     shared-slice-read-note-entry
     note-entry-requires
-    add-i
-    loop-less
+    (λ c. search needs)
+    (λ c. search needs)
     loop-again
-    same-length
+    (λ c. search needs)
     returns)

@@ -35,12 +35,6 @@ shared-slice-read-scan-entry c = let b = bounds (c .before .before .before .befo
 scan-entry-requires : tie.Need-scan-entry-requires Inv-loop μ-loop
 scan-entry-requires c κs = let b = bounds (c .before .before .before .before .before .pre) in omega arith
 
-enum-known-next : tie.Need-enum-known-next Inv-loop μ-loop
-enum-known-next c = search needs
-
-enum-known-verdict : tie.Need-enum-known-verdict Inv-loop μ-loop
-enum-known-verdict c = search needs
-
 returns : tie.Need-returns Inv-loop μ-loop
 returns c =
     let d = c .before .before .before .before .before .before .before .before .before .pre in
@@ -55,9 +49,6 @@ add-i : tie.Need-add-i Inv-loop μ-loop
 add-i c =
     let b = bounds (c .before .before .before .before .before .before .before .before .before .pre) in omega
     (arith, c .before .before .before .before .before .before .before .pow2 .ensures)
-
-loop-less : tie.Need-loop-less Inv-loop μ-loop
-loop-less c = search needs
 
 loop-again : tie.Need-loop-again Inv-loop μ-loop
 loop-again c =
@@ -97,11 +88,11 @@ scan-spec =
     mul-scan-entry
     shared-slice-read-scan-entry
     scan-entry-requires
-    enum-known-next
-    enum-known-verdict
+    (λ c. search needs)
+    (λ c. search needs)
     returns
     add-i
-    loop-less
+    (λ c. search needs)
     loop-again
     returns-2
     returns-3)

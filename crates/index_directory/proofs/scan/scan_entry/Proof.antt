@@ -23,15 +23,6 @@ returns-2 : tie.Need-returns-2
 unfolding scanAt
 returns-2 c = rw (lt-ltb _ _ (c .before .before .if1 .taken), ne-eqb _ _ (c .if2 .left))
 
-open-entry-requires : tie.Need-open-entry-requires
-open-entry-requires c κs = search needs
-
-enum-known-local-depth : tie.Need-enum-known-local-depth
-enum-known-local-depth c = search needs
-
-enum-told : tie.Need-enum-told
-enum-told c = search needs
-
 returns-3 : tie.Need-returns-3
 unfolding scanAt validLeader
 returns-3 c =
@@ -80,9 +71,9 @@ scan-entry-spec =
     (tie.spec
     returns
     returns-2
-    open-entry-requires
-    enum-known-local-depth
-    enum-told
+    (λ c κs. search needs)
+    (λ c. search needs)
+    (λ c. search needs)
     returns-3
     block-width-requires
     sub-if3

@@ -29,15 +29,6 @@ loop-holds c =
     let a = c .before .args in
     (omega arith, omega arith, search needs, before-loop (λ (t : ℕ). store (a .first + (a .count - suc t)) (a .entry) ∷ []) _ _ _)
 
-sub-from-right : tie.Need-sub-from-right Inv-loop μ-loop
-sub-from-right c = search needs
-
-sub-from-right-2 : tie.Need-sub-from-right-2 Inv-loop μ-loop
-sub-from-right-2 c = search needs
-
-add-store-word : tie.Need-add-store-word Inv-loop μ-loop
-add-store-word c = search needs
-
 store-word-requires : tie.Need-store-word-requires Inv-loop μ-loop
 store-word-requires c κs = (omega arith, omega arith)
 
@@ -76,9 +67,9 @@ fill-entries-spec =
     Inv-loop
     μ-loop
     loop-holds
-    sub-from-right
-    sub-from-right-2
-    add-store-word
+    (λ c. search needs)
+    (λ c. search needs)
+    (λ c. search needs)
     store-word-requires
     add-t
     loop-less

@@ -8,32 +8,11 @@ use Rattle.index_directory.proofs.Updates.{length-filling, halves-fit, 
 use Rattle.index_directory.proofs.update.update_entries.Statement.{statement}
 use Rattle.index_directory.proofs.update.update_entries.Tie as tie
 
-add-block-width : tie.Need-add-block-width
-add-block-width c = search needs
-
-block-width-requires : tie.Need-block-width-requires
-block-width-requires c κs = search needs
-
-pow2-requires : tie.Need-pow2-requires
-pow2-requires c κs = search needs
-
 add-left : tie.Need-add-left
 add-left c = let h = halves-fit (c .before .before .before .before .pre .0) in omega arith
 
 add-right : tie.Need-add-right
 add-right c = let h = halves-fit (c .before .before .before .before .pre .0) in omega arith
-
-add-pack-entry : tie.Need-add-pack-entry
-add-pack-entry c = search needs
-
-pack-entry-requires : tie.Need-pack-entry-requires
-pack-entry-requires c κs = search needs
-
-add-pack-entry-2 : tie.Need-add-pack-entry-2
-add-pack-entry-2 c = search needs
-
-pack-entry-requires-2 : tie.Need-pack-entry-requires-2
-pack-entry-requires-2 c κs = search needs
 
 fill-entries-requires : tie.Need-fill-entries-requires
 fill-entries-requires c κs =
@@ -71,15 +50,15 @@ pub update-entries-spec : {M : Type 1} → statement M
 update-entries-spec =
     tie.close
     (tie.spec
-    add-block-width
-    block-width-requires
-    pow2-requires
+    (λ c. search needs)
+    (λ c κs. search needs)
+    (λ c κs. search needs)
     add-left
     add-right
-    add-pack-entry
-    pack-entry-requires
-    add-pack-entry-2
-    pack-entry-requires-2
+    (λ c. search needs)
+    (λ c κs. search needs)
+    (λ c. search needs)
+    (λ c κs. search needs)
     fill-entries-requires
     fill-entries-requires-2
     same-length

@@ -19,9 +19,6 @@ mul-open-entry c = let b = bounds (c .before .before .pre .0) in omega arith
 shared-slice-read-open-entry : tie.Need-shared-slice-read-open-entry
 shared-slice-read-open-entry c = let b = bounds (c .before .before .before .pre .0) in omega arith
 
-open-entry-requires : tie.Need-open-entry-requires
-open-entry-requires c κs = search needs
-
 returns : tie.Need-returns
 returns c =
     let d = c .before .before .before .before .pre .0 in
@@ -35,5 +32,5 @@ read-entry-spec =
     add-at
     mul-open-entry
     shared-slice-read-open-entry
-    open-entry-requires
+    (λ c κs. search needs)
     returns)

@@ -14,9 +14,6 @@ use Rattle.index_segment.proofs.listing.write_slot.Tie as tie
 room : (c : tie.Then1) → c .before .before .before .args .at + 2 ≤ length (c .before .before .before .args .list .now)
 room c = c .before .before .before .pre .1 (sym (c .before .is-live .ensures) ∙ c .if1 .taken)
 
-is-live-requires : tie.Need-is-live-requires
-is-live-requires c κs = search needs
-
 mul-list : tie.Need-mul-list
 mul-list c = omega (arith, room c)
 
@@ -34,9 +31,6 @@ slice-write-list-2 c = simp length-set (omega (arith, room c))
 
 add-result : tie.Need-add-result
 add-result c = omega (arith, room c)
-
-same-length : tie.Need-same-length
-same-length c = search needs
 
 returns : tie.Need-returns
 returns c =
@@ -56,13 +50,13 @@ pub write-slot-spec : {M : Type 1} → statement M
 write-slot-spec =
     tie.close
     (tie.spec
-    is-live-requires
+    (λ c κs. search needs)
     mul-list
     slice-write-list
     add-list
     mul-list-2
     slice-write-list-2
     add-result
-    same-length
+    (λ c. search needs)
     returns
     returns-2)

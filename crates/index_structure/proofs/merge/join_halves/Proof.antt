@@ -20,9 +20,6 @@ join-entries-requires c κs =
     let made = rw (c .before .before .before .before .before .before .merging-of .ensures) at (c .before .before .before .before .merge-slots .ensures) in
     entries-ready (c .before .before .before .before .before .before .before .before .pre) _ _ _ made
 
-same-length : tie.Need-same-length
-same-length c = search needs
-
 returns : tie.Need-returns
 returns c =
     let made =
@@ -32,4 +29,4 @@ returns c =
     (c .before .before .join-entries .ensures)
 
 pub join-halves-spec : {M : Type 1} → statement M
-join-halves-spec = tie.close (tie.spec merging-of-requires merge-slots-requires sub-t10 join-entries-requires same-length returns)
+join-halves-spec = tie.close (tie.spec merging-of-requires merge-slots-requires sub-t10 join-entries-requires (λ c. search needs) returns)

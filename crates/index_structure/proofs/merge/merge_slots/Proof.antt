@@ -6,33 +6,6 @@ use Rattle.index_structure.proofs.Merges.{slots-made}
 use Rattle.index_structure.proofs.merge.merge_slots.Statement.{statement}
 use Rattle.index_structure.proofs.merge.merge_slots.Tie as tie
 
-read-segment-requires : tie.Need-read-segment-requires
-read-segment-requires c κs = search needs
-
-read-segment-requires-2 : tie.Need-read-segment-requires-2
-read-segment-requires-2 c κs = search needs
-
-add-merge-records : tie.Need-add-merge-records
-add-merge-records c = search needs
-
-mul-merge-records : tie.Need-mul-merge-records
-mul-merge-records c = search needs
-
-sub-merge-records : tie.Need-sub-merge-records
-sub-merge-records c = search needs
-
-part-merge-records-start : tie.Need-part-merge-records-start
-part-merge-records-start c = search needs
-
-part-merge-records-end : tie.Need-part-merge-records-end
-part-merge-records-end c = search needs
-
-merge-records-requires : tie.Need-merge-records-requires
-merge-records-requires c κs = search needs
-
-same-length : tie.Need-same-length
-same-length c = search needs
-
 returns : tie.Need-returns
 returns c =
     let u = c .before .before .before .before .before .before .before .before .before .args in
@@ -43,4 +16,4 @@ returns c =
     (c .before .before .merge-records .ensures)
 
 pub merge-slots-spec : {M : Type 1} → statement M
-merge-slots-spec = tie.close (tie.spec read-segment-requires read-segment-requires-2 add-merge-records mul-merge-records sub-merge-records part-merge-records-start part-merge-records-end merge-records-requires same-length returns)
+merge-slots-spec = tie.close (tie.spec (λ c κs. search needs) (λ c κs. search needs) (λ c. search needs) (λ c. search needs) (λ c. search needs) (λ c. search needs) (λ c. search needs) (λ c κs. search needs) (λ c. search needs) returns)

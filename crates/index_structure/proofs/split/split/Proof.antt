@@ -6,20 +6,8 @@ use borrow.Author.Needs.{needs}
 use Rattle.index_structure.proofs.split.split.Statement.{statement}
 use Rattle.index_structure.proofs.split.split.Tie as tie
 
-returns : tie.Need-returns
-returns c = search needs
-
-free-segment-requires : tie.Need-free-segment-requires
-free-segment-requires c κs = search needs
-
-enum-known-new-segment : tie.Need-enum-known-new-segment
-enum-known-new-segment c = search needs
-
 enum-told : tie.Need-enum-told
 enum-told c = search needs
-
-same-length : tie.Need-same-length
-same-length c = search needs
 
 returns-2 : tie.Need-returns-2
 returns-2 c =
@@ -28,9 +16,6 @@ returns-2 c =
 split-into-requires : tie.Need-split-into-requires
 split-into-requires c κs =
     can-split (c .before .before .before .before .before .before .before .before .before .before .before .pre) (λ e. omega (arith, c .before .before .before .before .before .before .if1 .left)) (c .before .before .before .before .free-segment .ensures) (c .before .before .new-segment .given .1)
-
-same-length-2 : tie.Need-same-length-2
-same-length-2 c = search needs
 
 returns-3 : tie.Need-returns-3
 returns-3 c =
@@ -41,12 +26,12 @@ pub split-spec : {M : Type 1} → statement M
 split-spec =
     tie.close
     (tie.spec
-    returns
-    free-segment-requires
-    enum-known-new-segment
+    (λ c. search needs)
+    (λ c κs. search needs)
+    (λ c. search needs)
     enum-told
-    same-length
+    (λ c. search needs)
     returns-2
     split-into-requires
-    same-length-2
+    (λ c. search needs)
     returns-3)

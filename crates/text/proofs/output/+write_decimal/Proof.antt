@@ -38,9 +38,6 @@ learnt t = (write-short-reads.Asked, write-short-reads.Learnt, write-decimal-bel
 write-decimal-write-short-requires : (t : ℕ) → write-decimal-lts.Need-write-short-requires (learnt t) (write-decimal-at t) write-decimal.Post
 write-decimal-write-short-requires t c κs = (c .before .if1 .taken, c .before .before .before .pre .1)
 
-write-decimal-same-length : (t : ℕ) → write-decimal-lts.Need-same-length (learnt t) (write-decimal-at t) write-decimal.Post
-write-decimal-same-length t c = search needs
-
 write-decimal-returns : (t : ℕ) → write-decimal-lts.Need-returns (learnt t) (write-decimal-at t) write-decimal.Post
 write-decimal-returns t c = c .before .before .write-short .ensures
 
@@ -51,9 +48,6 @@ write-decimal-write-decimal-requires t c κs =
 write-decimal-write-four-requires : (t : ℕ) → write-decimal-lts.Need-write-four-requires (learnt t) (write-decimal-at t) write-decimal.Post
 write-decimal-write-four-requires t c κs =
     (omega arith, omega (arith, c .before .before .before .before .before .before .before .pre .1, length-four-more (c .before .before .before .before .before .before .before .args .n) (c .before .before .before .before .before .if1 .left) (search needs), c .before .before .before .write-decimal .ensures .behind))
-
-write-decimal-same-length-2 : (t : ℕ) → write-decimal-lts.Need-same-length-2 (learnt t) (write-decimal-at t) write-decimal.Post
-write-decimal-same-length-2 t c = search needs
 
 write-decimal-returns-2 : (t : ℕ) → write-decimal-lts.Need-returns-2 (learnt t) (write-decimal-at t) write-decimal.Post
 write-decimal-returns-2 t c =
@@ -66,9 +60,9 @@ pub +write-decimal-spec : {M : Type 1} → statement M
     (write-decimal-at t)
     write-decimal.Post
     (write-decimal-write-short-requires t)
-    (write-decimal-same-length t)
+    (λ c. search needs)
     (write-decimal-returns t)
     (write-decimal-write-decimal-requires t)
     (write-decimal-write-four-requires t)
-    (write-decimal-same-length-2 t)
+    (λ c. search needs)
     (write-decimal-returns-2 t)
