@@ -1,5 +1,4 @@
 -- The four cases of a print, in document 02's words; and that the order in which jobs are looked up does not matter.
--- Assumes nothing.
 use Prim.Native.Nat.{ℕ, suc, _-_, _≤_, _<_}
 use mathlib.Core.Path.{_≡_, refl, sym, ap, _∙_}
 use mathlib.Core.Bool.{true, false}

@@ -1,5 +1,4 @@
 -- Laws of the sets of numbers: one number more, the smallest that is missing, and the empty set.
--- Assumes nothing.
 use mathlib.Core.Path.{_≡_, ap}
 use mathlib.Core.Bool.{true, false}
 use mathlib.Core.List.{List}

@@ -1,5 +1,4 @@
 -- Laws of the bits of a word: one bit more, a full word, and the lowest bit that is 0.
--- Assumes nothing.
 use mathlib.Core.Path.{_≡_, refl, sym, ap, _∙_}
 use mathlib.Core.Bool.{true, false}
 use mathlib.Core.Logic.{⊎-elim}

@@ -1,5 +1,4 @@
 -- A pass over the directory, index by index: the block that it is in, and the leader of each index.
--- Assumes nothing.
 use mathlib.Core.Path.{_≡_, refl, sym, ap, _∙_}
 use mathlib.Core.Bool.{Bool, true, false, _&&_, true≢false}
 use mathlib.Core.List.{List}

@@ -1,5 +1,4 @@
 -- The buddy of a key's block by the code's numbers, and the entries of a joined block.
--- Assumes nothing.
 use mathlib.Core.Path.{_≡_, refl, sym, ap, _∙_}
 use mathlib.Core.Bool.{true, false}
 use mathlib.Core.List.{List, [], _∷_}

@@ -1,5 +1,4 @@
 -- The search for a free segment: what is noted entry by entry, and the answer from the set.
--- Assumes nothing.
 use mathlib.Core.Path.{_≡_, refl, sym, ap, _∙_}
 use mathlib.Core.Bool.{Bool, true, false, not, _&&_, _||_}
 use mathlib.Core.List.{List}

@@ -1,5 +1,4 @@
 -- One lemma for each call: at a good point of a run the call answers as the map says, and leaves a good point.
--- Assumes nothing.
 use mathlib.Core.Path.{_≡_, refl, sym, ap, _∙_}
 use mathlib.Core.Bool.{Bool, true, false, false≢true}
 use mathlib.Core.List.{List, [], _∷_}

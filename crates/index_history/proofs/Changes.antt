@@ -1,6 +1,5 @@
 -- Changes of one segment, for an index and its block's bits: a new value at the hit; value, then key, into a slot that is not
 -- live; the key cleared at the hit. The store needs no recovery before, nor after.
--- Assumes nothing.
 use mathlib.Core.Path.{_≡_, refl, sym, _∙_}
 use mathlib.Core.Bool.{true, false, true≢false}
 use mathlib.Core.List.{List, List·Memᴰ}

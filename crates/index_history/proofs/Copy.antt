@@ -1,5 +1,4 @@
 -- The copy step of a split, for an index and its block's bits: the new segment holds what the old one holds for the right half.
--- Assumes nothing.
 use mathlib.Core.Path.{_≡_, sym, _∙_}
 use mathlib.Core.Bool.{true, false}
 use mathlib.Core.List.{List, [], _∷_, List·Memᴰ}

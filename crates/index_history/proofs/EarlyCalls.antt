@@ -1,5 +1,4 @@
 -- Calls that wait for the mend, made before it all the same: they are refused with 2 or 4, or there is nothing to mend.
--- Assumes nothing.
 use mathlib.Core.Path.{_≡_, refl, sym, _∙_}
 use mathlib.Core.Bool.{Bool, true, false, false≢true, _||_}
 use mathlib.Core.List.{List, []}

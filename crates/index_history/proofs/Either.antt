@@ -1,7 +1,6 @@
 -- An array that serves a directory f and the same directory halved at index i, with the segment n for the right half: while each entry is
 -- one or the other's, lookups agree with the map, and the invariant holds with f as long as f's blocks begin with f's entries, and with
 -- the halved one where all entries are its. A split goes from f to the halved directory, a merge the other way.
--- Assumes nothing.
 use mathlib.Core.Path.{_≡_}
 use mathlib.Core.Bool.{true, false}
 use mathlib.Core.List.{List, List·Memᴰ}

@@ -1,5 +1,4 @@
 -- What the probe window of a key holds in a segment, and how changes of the segment's slots change it.
--- Assumes nothing.
 use mathlib.Core.Path.{_≡_, refl, sym, ap, _∙_}
 use mathlib.Core.Bool.{true, false}
 use mathlib.Core.List.{List, List·Memᴰ}

@@ -1,6 +1,5 @@
 -- The invariant of the history proof: what holds of the array at every point of a run, with the map as it is then.
 -- Its facts speak of an index of the directory and of its block's bits, not of a key.
--- Assumes nothing.
 use mathlib.Core.Path.{_≡_, refl, sym, ap, _∙_}
 use mathlib.Core.Bool.{true, false}
 use mathlib.Core.List.{List, List·Memᴰ}

@@ -1,5 +1,4 @@
 -- After a merge no two blocks share a segment, and none has the right half's.
--- Assumes nothing.
 use mathlib.Core.Path.{_≡_, sym, ap, _∙_}
 use mathlib.Core.Bool.{true, false}
 use mathlib.Core.Logic.{⊎-elim}

@@ -1,5 +1,4 @@
 -- A merge on a key but 0 keeps the map under every allowance; done, it frees the right half's segment.
--- Assumes nothing.
 use mathlib.Core.Path.{_≡_, refl, sym, ap, _∙_}
 use mathlib.Core.Bool.{true, false}
 use mathlib.Core.List.{List, []}

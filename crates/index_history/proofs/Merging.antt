@@ -1,6 +1,5 @@
 -- A merge keeps the map after every number of its stores, and whole it leaves a store that needs no recovery, in which no entry names
 -- the right segment. Its slots change records that are not live in the left half; its entries go from the two halves to the joined block.
--- Assumes nothing.
 use mathlib.Core.Path.{_≡_, refl, sym, ap, _∙_}
 use mathlib.Core.Bool.{Bool, true, false, true≢false, not, _&&_}
 use mathlib.Core.List.{List, [], _++_, List·Memᴰ}

@@ -1,5 +1,4 @@
 -- What a plan is to the map, and what the call it is the plan of leaves of a run's point, under every allowance.
--- Assumes nothing.
 use mathlib.Core.Path.{_≡_, refl, sym, _∙_}
 use mathlib.Core.Bool.{Bool, true, false, true≢false}
 use mathlib.Core.List.{List, _++_}

@@ -1,5 +1,4 @@
 -- A split keeps the map after every number of its stores, and whole it leaves a store that needs no recovery.
--- Assumes nothing.
 use mathlib.Core.Path.{_≡_, sym, ap, _∙_}
 use mathlib.Core.Bool.{true, false, true≢false}
 use mathlib.Core.List.{List, _++_}

@@ -1,5 +1,4 @@
 -- The entry update of a split, from right to left: what holds after each number of its stores.
--- Assumes nothing.
 use mathlib.Core.Path.{_≡_, _∙_}
 use mathlib.Core.Bool.{true, false}
 use mathlib.Core.List.{List}

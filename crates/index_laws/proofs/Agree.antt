@@ -1,5 +1,4 @@
 -- Two arrays that agree in the words that D and S take: what is read of them is the same.
--- Assumes nothing.
 use mathlib.Core.Path.{_≡_, refl, sym, ap, ap₂, _∙_}
 use mathlib.Core.Bool.{Bool, true, false}
 use mathlib.Core.List.{List}

@@ -1,5 +1,4 @@
 -- The records of an index block by block, and its leaders. The indices behind a leader, inside its block, add none.
--- Assumes nothing.
 use mathlib.Core.Path.{_≡_, sym, ap, _∙_}
 use mathlib.Core.Bool.{true, false}
 use mathlib.Core.List.{List, [], _∷_, _++_}

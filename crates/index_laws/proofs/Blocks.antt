@@ -1,6 +1,5 @@
 -- Directories by their blocks: what a consistent directory is, index by index; that the scan finds these blocks; and what doubling
 -- and halving make of them.
--- Assumes nothing.
 use mathlib.Core.Path.{_≡_, refl, sym, ap, _∙_}
 use mathlib.Core.Bool.{true, false}
 use mathlib.Core.List.{List}

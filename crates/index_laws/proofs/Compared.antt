@@ -1,6 +1,5 @@
 -- Rows about several calls on one array: the listings of one block joined, a call allowed one store more, a put with another value;
 -- and the test that a row passes.
--- Assumes nothing.
 use Prim.Native.Nat.{ℕ, zero, suc, _+_}
 use native.Mathlib.Nat.{add-zero}
 use native.Mathlib.Omega.{arith}

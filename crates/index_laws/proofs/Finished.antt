@@ -1,6 +1,5 @@
 -- Mending finishes a merge once its first entry is stored, before that leaves it undone, and can be done: on every array with a consistent
 -- directory.
--- Assumes nothing.
 use mathlib.Core.Path.{_≡_, sym, ap, _∙_}
 use mathlib.Core.Bool.{true, false}
 use mathlib.Core.List.{List, _++_}

@@ -1,6 +1,5 @@
 -- Two halves of a block joined: what a merge makes of a consistent directory, and what stands in it after any number of the stores of its
 -- entries, from left to right.
--- Assumes nothing.
 use mathlib.Core.Path.{_≡_, refl, sym, ap, _∙_}
 use mathlib.Core.Bool.{true, false, not}
 use mathlib.Core.List.{List, [], _∷_}

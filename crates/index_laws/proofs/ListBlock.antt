@@ -1,6 +1,5 @@
 -- The listing of one block: 128 words are always enough, the answers joined are the full listing, and 1, 3 and 4 come where they come
 -- from list.
--- Assumes nothing.
 use mathlib.Core.Path.{_≡_, refl, sym, ap, _∙_}
 use mathlib.Core.Bool.{Bool, true, false, true≢false, _||_}
 use mathlib.Core.List.{List, [], _∷_, _++_, append-assoc, append-nil}

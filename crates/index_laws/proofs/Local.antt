@@ -1,5 +1,4 @@
 -- What a call says, stores and lists depends only on the words that D and S take, and on the array's length.
--- Assumes nothing.
 use mathlib.Core.Path.{_≡_, refl, sym, ap, _∙_}
 use mathlib.Core.Bool.{true, false, not, _&&_}
 use mathlib.Core.List.{List, [], _∷_, _++_}

@@ -1,6 +1,5 @@
 -- Mending to completion, on an array that has all words of another one but for entries, and where blocks begin its entries too: it leaves
 -- that other array, whose directory is consistent.
--- Assumes nothing.
 use mathlib.Core.Path.{_≡_, refl, sym, ap, _∙_}
 use mathlib.Core.Bool.{true, false}
 use mathlib.Core.List.{List, [], _∷_, _++_}

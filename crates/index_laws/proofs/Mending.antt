@@ -1,6 +1,5 @@
 -- A consistent directory has nothing to mend. And what the stores of a mend leave, any number of them, in an array whose entries are
 -- those of a consistent directory f where f's blocks begin: entries become f's, and all else stays.
--- Assumes nothing.
 use mathlib.Core.Path.{_≡_, refl, ap, _∙_}
 use mathlib.Core.Bool.{Bool, true, false}
 use mathlib.Core.List.{List, [], _∷_, _++_}

@@ -1,5 +1,4 @@
 -- What merge's passed tests say of the two halves, where its stores go, and how many they are.
--- Assumes nothing.
 use mathlib.Core.Path.{_≡_, refl, sym, _∙_}
 use mathlib.Core.Bool.{Bool, true, false, not, _&&_}
 use mathlib.Core.List.{List, [], _∷_}

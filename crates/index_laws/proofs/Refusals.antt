@@ -1,6 +1,5 @@
 -- Refusals 1 to 4, 8 to 10 and 14 to 16 make no store and change no word, on every array. For put: where its tests pass, they pass again
 -- after a split, so that 1 to 4 are given before the first store or not at all.
--- Assumes nothing.
 use mathlib.Core.Path.{_≡_, refl, sym, ap, _∙_}
 use mathlib.Core.Bool.{true, false}
 use mathlib.Core.List.{List, []}

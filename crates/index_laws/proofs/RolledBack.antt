@@ -1,5 +1,4 @@
 -- Mending rolls an unfinished split back and keeps a finished one, on every array with a consistent directory; and it can be done.
--- Assumes nothing.
 use mathlib.Core.Path.{_≡_, refl, sym, ap, _∙_}
 use mathlib.Core.Bool.{Bool, true, false, true≢false}
 use mathlib.Core.List.{List, [], _∷_, _++_}

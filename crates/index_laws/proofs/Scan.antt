@@ -1,6 +1,5 @@
 -- The scan of the directory: as document 01 says it, and by recursion on the index, are the same on every array; and what
 -- holds at each index where the scan finds every leader valid.
--- Assumes nothing.
 use mathlib.Core.Path.{_≡_, refl, sym, ap, _∙_}
 use mathlib.Core.Bool.{Bool, true, false, true≢false}
 use mathlib.Core.List.{List, [], _∷_, _++_, append-assoc, append-nil}

@@ -1,6 +1,5 @@
 -- Laws of the slots that the calls look for: the first hit, the slot for a new key, the choice of a put. But for the computed rows,
 -- this file alone opens the slot for a new key: the proofs above use that it is in the window and not live.
--- Assumes nothing.
 use mathlib.Core.Path.{_≡_, refl, sym, ap, ap₂, _∙_}
 use mathlib.Core.Bool.{true, false, not}
 use mathlib.Core.List.{List, List·Memᴰ}

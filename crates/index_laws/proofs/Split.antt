@@ -1,5 +1,4 @@
 -- What the stores of a split leave, on any array with a valid word 0 and the key's own entry in range.
--- Assumes nothing.
 use mathlib.Core.Path.{_≡_, refl, ap, _∙_}
 use mathlib.Core.Bool.{true, false}
 use mathlib.Core.List.{List, []}

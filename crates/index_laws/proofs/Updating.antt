@@ -1,5 +1,4 @@
 -- The entry update of a split, from right to left: what stands in the directory after any number of its stores.
--- Assumes nothing.
 use mathlib.Core.Path.{_≡_, refl, sym, ap, _∙_}
 use mathlib.Core.Bool.{Bool, true, false, not}
 use mathlib.Core.List.{List, [], _∷_}

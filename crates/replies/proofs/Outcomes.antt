@@ -1,5 +1,4 @@
 -- What a call that changes the array says and leaves, by whether it is cut off; and plans behind tests.
--- Assumes nothing.
 use mathlib.Core.Path.{_≡_, refl, ap}
 use mathlib.Core.Bool.{true, false}
 use mathlib.Core.List.{List}

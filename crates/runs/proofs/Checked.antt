@@ -1,5 +1,4 @@
 -- What the claims say of a run and of mends, the computed tests find; and what the tests find of the keys that are asked for, the claims say.
--- Assumes nothing.
 use Prim.Native.Nat.{ℕ}
 use mathlib.Core.Path.{_≡_, refl}
 use mathlib.Core.Bool.{Bool, true, false, not}

@@ -1,5 +1,4 @@
 -- What stores leave: by append and by prefix, lengths, and reads after stores.
--- Assumes nothing.
 use mathlib.Core.Path.{_≡_, refl, sym, ap, _∙_}
 use mathlib.Core.Bool.{Bool, true, false, _||_}
 use mathlib.Core.List.{List, [], _∷_, _++_}

@@ -1,5 +1,4 @@
 -- `board::read` meets its contract.
--- Assumes nothing.
 use borrow.Author.Needs.{needs}
 use Rattle.board.proofs.Jobs.{job-called, job-refused}
 use Rattle.board.proofs.read.Statement.{statement}

@@ -1,5 +1,4 @@
 -- `desk_run::run` meets its contract.
--- Assumes nothing.
 use native.Mathlib.Omega.{arith}
 use borrow.Author.Needs.{needs}
 use Rattle.text.proofs.Lines.{lines-few}

@@ -1,5 +1,4 @@
 -- `desk_run::run_line` meets its contract.
--- Assumes nothing.
 use mathlib.Core.Path.{sym, ap, _∙_}
 use Rattle.desk_text.specs.Line.{lineSaid}
 use Rattle.desk_run.proofs.Runs.{line-other, line-called}

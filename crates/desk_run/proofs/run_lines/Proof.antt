@@ -1,5 +1,4 @@
 -- `desk_run::run_lines` meets its contract. The invariant: the lines so far have been run, and the others have room.
--- Assumes nothing.
 use mathlib.Core.Path.{_≡_, refl}
 use Prim.Native.Nat.{_-_}
 use lib.ListN.{length}

@@ -1,5 +1,4 @@
 -- `desk_run::run_next` meets its contract.
--- Assumes nothing.
 use borrow.Author.Needs.{needs}
 use Rattle.desk_run.proofs.Runs.{next-room, next-ran, next-none}
 use Rattle.desk_run.proofs.run_next.Statement.{statement}

@@ -1,5 +1,4 @@
 -- `example_board::show` is safe: the bytes written are within the buffer.
--- Assumes nothing.
 use lib.ListN.{length-take}
 use native.Mathlib.Omega.{arith}
 use borrow.Author.Needs.{needs}

@@ -1,5 +1,4 @@
 -- `index::put` meets its contract. The measure is the depth still unused: D minus the local depth of the key's entry.
--- Assumes nothing.
 use Prim.Native.Nat.{ℕ, _<_}
 use mathlib.Core.Path.{_≡_}
 use native.Mathlib.Omega.{arith}

@@ -1,5 +1,4 @@
 -- `index::merge` meets its contract.
--- Assumes nothing.
 use borrow.Author.Needs.{needs}
 use mathlib.Core.Path.{ap}
 use Rattle.replies.specs.Replies.{saidBy}

@@ -1,5 +1,4 @@
 -- `index::perform` meets its contract.
--- Assumes nothing.
 use mathlib.Core.Path.{refl}
 use borrow.Author.Needs.{needs}
 use Rattle.index.proofs.Performs.{performed, list-performed, list-block-performed}

@@ -1,5 +1,4 @@
 -- `index::remove` meets its contract.
--- Assumes nothing.
 use native.Mathlib.Omega.{arith}
 use mathlib.Core.Path.{ap}
 use Rattle.replies.specs.Replies.{saidBy}

@@ -1,5 +1,4 @@
 -- `page_index::next_told` meets its contract.
--- Assumes nothing.
 use borrow.Author.Needs.{needs}
 use mathlib.Core.Path.{refl}
 use Rattle.page_index.proofs.Tellings.{next-kept}

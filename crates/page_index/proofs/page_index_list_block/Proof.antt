@@ -1,5 +1,4 @@
 -- `page_index::page_index_list_block` meets its contract.
--- Assumes nothing.
 use borrow.Author.Needs.{needs}
 use Rattle.page_index.proofs.Tellings.{told-block}
 use Rattle.page_index.proofs.page_index_list_block.Statement.{statement}

@@ -1,4 +1,4 @@
--- `test_desk::gives` is safe: the bytes written are within the output array. Assumes nothing.
+-- `test_desk::gives` is safe: the bytes written are within the output array.
 use lib.ListN.{length-take}
 use native.Mathlib.Omega.{arith}
 use borrow.Author.Needs.{needs}

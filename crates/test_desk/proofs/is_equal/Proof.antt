@@ -1,4 +1,4 @@
--- `test_desk::is_equal` is safe and ends. The invariant: the position is within both parts. Assumes nothing.
+-- `test_desk::is_equal` is safe and ends. The invariant: the position is within both parts.
 use Prim.Native.Nat.{_-_, _≤_}
 use lib.ListN.{length}
 use borrow.Author.Needs.{needs}

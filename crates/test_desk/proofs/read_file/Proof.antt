@@ -1,4 +1,4 @@
--- `test_desk::read_file` meets its contract. Assumes nothing.
+-- `test_desk::read_file` meets its contract.
 use lib.ListN.{length-take}
 use native.Mathlib.Omega.{arith}
 use borrow.Author.Needs.{needs}

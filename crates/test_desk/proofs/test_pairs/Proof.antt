@@ -1,4 +1,4 @@
--- `test_desk::test_pairs` is safe and ends. The measure is the pairs that are left. Assumes nothing.
+-- `test_desk::test_pairs` is safe and ends. The measure is the pairs that are left.
 use Prim.Native.Nat.{_-_, _≤_}
 use borrow.Author.Needs.{needs}
 use Rattle.test_desk.proofs.test_pairs.Statement.{statement}

@@ -1,5 +1,4 @@
 -- `board::count::count_job` meets its contract.
--- Assumes nothing.
 use borrow.Author.Needs.{needs}
 use Rattle.board.proofs.Found.{got, counted-found, counted-none, counted-refused}
 use Rattle.board.proofs.count.count_job.Statement.{statement}

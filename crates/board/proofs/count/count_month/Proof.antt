@@ -1,5 +1,4 @@
 -- `board::count::count_month` meets its contract. The invariant: the jobs below `number` are counted.
--- Assumes nothing.
 use Prim.Native.Nat.{_-_, _≤_}
 use mathlib.Core.Path.{_≡_}
 use native.Mathlib.Numerals.{add-one}

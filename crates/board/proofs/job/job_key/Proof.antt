@@ -1,5 +1,4 @@
 -- `board::job::job_key` meets its contract.
--- Assumes nothing.
 use mathlib.Core.Path.{refl}
 use borrow.Author.Needs.{needs}
 use Rattle.board.specs.Jobs.{jobKey}

@@ -1,5 +1,4 @@
 -- `board::line::write_line` meets its contract.
--- Assumes nothing.
 use native.Mathlib.Omega.{arith}
 use borrow.Author.Needs.{needs}
 use Rattle.board.proofs.Lines.{length-line-of, line-written}

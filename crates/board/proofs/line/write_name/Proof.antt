@@ -1,5 +1,4 @@
 -- `board::line::write_name` meets its contract.
--- Assumes nothing.
 use borrow.Author.Needs.{needs}
 use Rattle.board.proofs.Lines.{name-written}
 use Rattle.board.proofs.line.write_name.Statement.{statement}

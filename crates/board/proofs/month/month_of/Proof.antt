@@ -1,5 +1,4 @@
 -- `board::month::month_of` meets its contract.
--- Assumes nothing.
 use mathlib.Core.Path.{refl}
 use borrow.Author.Needs.{needs}
 use Rattle.board.specs.Print.{monthName}

@@ -1,5 +1,4 @@
 -- `board::write::write_year` meets its contract. The invariant: the lines of the months before `month` + 1 are written.
--- Assumes nothing.
 use Prim.Native.Nat.{_-_, _≤_}
 use mathlib.Core.Path.{_≡_, refl}
 use native.Mathlib.Numerals.{add-one}

@@ -1,5 +1,4 @@
 -- `desk_run::output::write_end` meets its contract.
--- Assumes nothing.
 use mathlib.Core.List.{[], _∷_}
 use native.Mathlib.Omega.{arith}
 use borrow.Author.Needs.{needs}

@@ -1,5 +1,4 @@
 -- `desk_run::output::write_head` meets its contract.
--- Assumes nothing.
 use mathlib.Core.List.{[], _∷_}
 use borrow.Author.Needs.{needs}
 use Rattle.stores.proofs.Written.{written-append}

@@ -1,5 +1,4 @@
 -- `desk_run::output::write_reply` meets its contract.
--- Assumes nothing.
 use Prim.Native.Nat.{_≤_}
 use lib.ListN.{length}
 use native.Mathlib.Omega.{arith}

@@ -1,5 +1,4 @@
 -- `desk_text::line::read_line` meets its contract. Each number read leaves the numbers so far and the fields that still follow.
--- Assumes nothing.
 use mathlib.Core.Path.{sym, ap, _∙_}
 use Prim.Native.Nat.{_+_}
 use mathlib.Core.List.{[], _∷_}

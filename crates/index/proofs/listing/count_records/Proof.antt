@@ -1,6 +1,5 @@
 -- `index::listing::count_records` meets its contract. The invariant: the index leads a block, and the count is that of the
 -- records of the indices below it.
--- Assumes nothing.
 use native.Mathlib.Omega.{arith}
 use mathlib.Core.Path.{_≡_}
 use Prim.Native.Nat.{_-_, _*_, _≤_}

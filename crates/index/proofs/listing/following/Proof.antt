@@ -1,5 +1,4 @@
 -- `index::listing::following` meets its contract.
--- Assumes nothing.
 use borrow.Author.Tests.{lt-ltb, le-ltb}
 use native.Mathlib.Omega.{arith}
 use Rattle.index_rules.specs.ListBlock.{following}

@@ -1,5 +1,4 @@
 -- `index::listing::header_to_list` meets its contract.
--- Assumes nothing.
 use borrow.Author.Needs.{needs}
 use mathlib.Core.Path.{sym, _∙_}
 use Rattle.index_layout.proofs.Answers.{header-valid, header-not-valid}

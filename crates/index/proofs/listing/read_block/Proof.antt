@@ -1,5 +1,4 @@
 -- `index::listing::read_block` meets its contract.
--- Assumes nothing.
 use borrow.Author.Needs.{needs}
 use native.Mathlib.Omega.{arith}
 use Rattle.index_laws.proofs.Keys.{width-le}

@@ -1,5 +1,4 @@
 -- `index::listing::write_block` meets its contract.
--- Assumes nothing.
 use borrow.Author.Needs.{needs}
 use native.Mathlib.Omega.{arith}
 use Rattle.index_segment.proofs.Parts.{span, part-length, part-records}

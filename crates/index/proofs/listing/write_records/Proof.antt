@@ -1,6 +1,5 @@
 -- `index::listing::write_records` meets its contract. The invariant: the index leads a block, and the records of the indices
 -- below it are written.
--- Assumes nothing.
 use native.Mathlib.Omega.{arith}
 use mathlib.Core.Path.{_≡_, refl, _∙_}
 use Prim.Native.Nat.{_-_, _≤_}

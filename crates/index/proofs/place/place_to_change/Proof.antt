@@ -1,5 +1,4 @@
 -- `index::place::place_to_change` meets its contract.
--- Assumes nothing.
 use mathlib.Core.Path.{sym, _∙_}
 use Rattle.index_layout.proofs.Answers.{header-valid, header-not-valid}
 use Rattle.index.proofs.Places.{change-no-store, change-no-key, change-directory-decides, change-entry}

@@ -1,5 +1,4 @@
 -- `index::place::place_to_read` meets its contract.
--- Assumes nothing.
 use Rattle.index_layout.proofs.Answers.{header-valid, header-not-valid}
 use Rattle.index.proofs.Places.{read-no-store, read-no-key, read-entry-decides}
 use borrow.Author.Needs.{needs}

@@ -1,5 +1,4 @@
 -- `index::slot::choose_at` meets its contract.
--- Assumes nothing.
 use native.Mathlib.Omega.{arith}
 use mathlib.Core.Path.{_∙_}
 use Rattle.index_layout.proofs.Places.{place-bounds}

@@ -1,5 +1,4 @@
 -- `index::slot::find_at` meets its contract.
--- Assumes nothing.
 use mathlib.Core.Path.{_∙_}
 use Rattle.index_segment.proofs.Parts.{span, part-hit}
 use borrow.Author.Needs.{needs}

@@ -1,5 +1,4 @@
 -- `index::slot::put_record` meets its contract.
--- Assumes nothing.
 use native.Mathlib.Omega.{arith}
 use Rattle.stores.proofs.Stores.{executed-append}
 use Rattle.index_layout.proofs.Places.{place-bounds}

@@ -1,5 +1,4 @@
 -- `index::slot::put_value` meets its contract.
--- Assumes nothing.
 use native.Mathlib.Omega.{arith}
 use Rattle.index_layout.proofs.Places.{place-bounds}
 use Rattle.index.proofs.Answers.{answered-stores}

@@ -1,5 +1,4 @@
 -- `index_directory::bit_set::insert` meets its contract.
--- Assumes nothing.
 use borrow.Author.Needs.{needs}
 use Rattle.index_directory.proofs.BitSets.{inserted}
 use Rattle.index_directory.proofs.bit_set.insert.Statement.{statement}

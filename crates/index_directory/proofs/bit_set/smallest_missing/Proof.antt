@@ -1,5 +1,4 @@
 -- `index_directory::bit_set::smallest_missing` meets its contract.
--- Assumes nothing.
 use borrow.Author.Needs.{needs}
 use mathlib.Core.Path.{_≡_}
 use Prim.Native.Nat.{_-_, _^_, _≤_}

@@ -1,5 +1,4 @@
 -- `index_directory::buddy::find_pair` meets its contract.
--- Assumes nothing.
 use Prim.Native.Nat.{_^_, _<_}
 use borrow.Author.Needs.{needs}
 use native.Mathlib.Omega.{arith}

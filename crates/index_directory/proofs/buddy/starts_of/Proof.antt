@@ -1,5 +1,4 @@
 -- `index_directory::buddy::starts_of` meets its contract.
--- Assumes nothing.
 use borrow.Author.Needs.{needs}
 use native.Mathlib.Omega.{arith}
 use Rattle.index_directory.proofs.Buddies.{starts-small, begun}

@@ -1,5 +1,4 @@
 -- `index_directory::double::double_entry` meets its contract.
--- Assumes nothing.
 use borrow.Author.Needs.{needs}
 use Rattle.index_directory.proofs.double.double_entry.Statement.{statement}
 use Rattle.index_directory.proofs.double.double_entry.Tie as tie

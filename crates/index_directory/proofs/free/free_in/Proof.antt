@@ -1,5 +1,4 @@
 -- `index_directory::free::free_in` meets its contract.
--- Assumes nothing.
 use borrow.Author.Needs.{needs}
 use Rattle.index_directory.proofs.Segments.{free-there, free-nowhere}
 use Rattle.index_directory.proofs.free.free_in.Statement.{statement}

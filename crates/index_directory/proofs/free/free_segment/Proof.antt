@@ -1,5 +1,4 @@
 -- `index_directory::free::free_segment` meets its contract.
--- Assumes nothing.
 use borrow.Author.Needs.{needs}
 use mathlib.Core.Path.{refl, _∙_}
 use Rattle.index_directory.proofs.BitSets.{empty-set}

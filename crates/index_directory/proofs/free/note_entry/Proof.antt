@@ -1,5 +1,4 @@
 -- `index_directory::free::note_entry` meets its contract.
--- Assumes nothing.
 use borrow.Author.Needs.{needs}
 use Rattle.index_directory.proofs.Segments.{noted-below, noted-not}
 use Rattle.index_directory.proofs.free.note_entry.Statement.{statement}

@@ -1,5 +1,4 @@
 -- `index_directory::join::join_entries` meets its contract. The invariant: the stores so far are due.
--- Assumes nothing.
 use Prim.Native.Nat.{ℕ, _+_, _-_, _≤_}
 use borrow.Author.Needs.{needs}
 use native.Mathlib.Omega.{arith}

@@ -1,5 +1,4 @@
 -- `index_directory::mend::mend_entry` meets its contract.
--- Assumes nothing.
 use borrow.Author.Needs.{needs}
 use borrow.Author.Tests.{eq-eqb, ne-eqb}
 use Rattle.stores.proofs.Stores.{executed-none}

@@ -1,5 +1,4 @@
 -- `index_layout::entry::block_width` meets its contract.
--- Assumes nothing.
 use borrow.Author.Needs.{needs}
 use mathlib.Core.Path.{sym, _∙_}
 use Rattle.index_laws.proofs.Keys.{width-pow}

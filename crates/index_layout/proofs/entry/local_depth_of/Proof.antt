@@ -1,5 +1,4 @@
 -- `index_layout::entry::local_depth_of` meets its contract.
--- Assumes nothing.
 use borrow.Author.Needs.{needs}
 use Rattle.index_rules.specs.Layout.{localDepth}
 use Rattle.index_layout.proofs.entry.local_depth_of.Statement.{statement}

@@ -1,5 +1,4 @@
 -- `index_layout::entry::open_entry` meets its contract.
--- Assumes nothing.
 use borrow.Author.Needs.{needs}
 use borrow.Author.Tests.{le-leb, lt-leb, lt-ltb, le-ltb}
 use Rattle.index_rules.specs.Scan.{inRange}

@@ -1,5 +1,4 @@
 -- `index_layout::entry::pack_entry` meets its contract.
--- Assumes nothing.
 use borrow.Author.Needs.{needs}
 use Rattle.index_rules.specs.Layout.{entry}
 use Rattle.index_layout.proofs.entry.pack_entry.Statement.{statement}

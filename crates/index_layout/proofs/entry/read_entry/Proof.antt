@@ -1,5 +1,4 @@
 -- `index_layout::entry::read_entry` meets its contract.
--- Assumes nothing.
 use borrow.Author.Needs.{needs}
 use native.Mathlib.Omega.{arith}
 use Rattle.index_layout.proofs.Shapes.{bounds}

@@ -1,5 +1,4 @@
 -- `index_layout::header::pack_header` meets its contract.
--- Assumes nothing.
 use borrow.Author.Needs.{needs}
 use native.Mathlib.Omega.{arith}
 use Rattle.index_rules.specs.Layout.{header}

@@ -1,5 +1,4 @@
 -- `index_layout::header::valid_shape` meets its contract.
--- Assumes nothing.
 use borrow.Author.Needs.{needs}
 use borrow.Author.Tests.{le-leb, lt-leb}
 use Rattle.index_rules.specs.Layout.{validShape}

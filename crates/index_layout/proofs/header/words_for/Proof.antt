@@ -1,5 +1,4 @@
 -- `index_layout::header::words_for` meets its contract.
--- Assumes nothing.
 use native.Mathlib.Omega.{arith}
 use native.Mathlib.Numerals.{add-one}
 use Prim.Native.Nat.{_+_, _^_, _≤_}

@@ -1,5 +1,4 @@
 -- `index_layout::key::directory_index` meets its contract.
--- Assumes nothing.
 use borrow.Author.Needs.{needs}
 use mathlib.Core.Path.{_≡_, sym, _∙_}
 use Prim.Native.Nat.{ℕ, _+_, _*_, _/_, _<_}

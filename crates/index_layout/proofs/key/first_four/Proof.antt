@@ -1,5 +1,4 @@
 -- `index_layout::key::first_four` meets its contract.
--- Assumes nothing.
 use borrow.Author.Needs.{needs}
 use Rattle.index_laws.proofs.Keys.{first-four}
 use Rattle.index_layout.proofs.key.first_four.Statement.{statement}

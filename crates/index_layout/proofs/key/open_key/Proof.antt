@@ -1,5 +1,4 @@
 -- `index_layout::key::open_key` meets its contract.
--- Assumes nothing.
 use Rattle.index_laws.proofs.Keys.{folded-xor, bucket-mod, bits-div}
 use borrow.Author.Needs.{needs}
 use Rattle.index_layout.proofs.key.open_key.Statement.{statement}

@@ -1,5 +1,4 @@
 -- `index_layout::place::place_of` meets its contract.
--- Assumes nothing.
 use native.Mathlib.Omega.{arith}
 use Rattle.index_layout.proofs.Shapes.{bounds}
 use Rattle.index_layout.proofs.Places.{key-index-lt, entry-segment, placed-at, placed-broken}

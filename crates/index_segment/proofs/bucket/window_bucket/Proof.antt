@@ -1,5 +1,4 @@
 -- `index_segment::bucket::window_bucket` meets its contract.
--- Assumes nothing.
 use borrow.Author.Needs.{needs}
 use native.Mathlib.Omega.{arith}
 use Rattle.index_laws.proofs.Keys.{bucket-mod, windowBucket-mod}

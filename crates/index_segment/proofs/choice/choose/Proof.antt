@@ -1,6 +1,5 @@
 -- `index_segment::choice::choose` meets its contract. The invariant: no slot of the buckets so far has the key, and `empty` and
 -- `usable` are the first empty and the first usable one of them.
--- Assumes nothing.
 use Prim.Native.Nat.{_-_, _≤_}
 use borrow.Author.Needs.{needs}
 use native.Mathlib.Omega.{arith}

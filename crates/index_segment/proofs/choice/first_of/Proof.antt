@@ -1,5 +1,4 @@
 -- `index_segment::choice::first_of` meets its contract.
--- Assumes nothing.
 use borrow.Author.Needs.{needs}
 use mathlib.Core.Option.{orElse}
 use Rattle.index_segment.proofs.choice.first_of.Statement.{statement}

@@ -1,5 +1,4 @@
 -- `index_segment::choice::slot_with_key` meets its contract. The invariant: no slot so far has the key.
--- Assumes nothing.
 use Prim.Native.Nat.{ℕ, _-_, _≤_, _<_}
 use borrow.Author.Needs.{needs}
 use native.Mathlib.Omega.{arith}

@@ -1,5 +1,4 @@
 -- `index_segment::choice::usable_from` meets its contract.
--- Assumes nothing.
 use borrow.Author.Needs.{needs}
 use mathlib.Core.Option.{orElse}
 use Rattle.index_segment.proofs.choice.usable_from.Statement.{statement}

@@ -1,5 +1,4 @@
 -- `index_segment::listing::count_live` meets its contract. The invariant: the count is that of the slots so far.
--- Assumes nothing.
 use Prim.Native.Nat.{_-_, _≤_}
 use borrow.Author.Needs.{needs}
 use native.Mathlib.Omega.{arith}

@@ -1,5 +1,4 @@
 -- `index_segment::listing::write_live` meets its contract. The invariant: the records of the slots so far are written.
--- Assumes nothing.
 use Prim.Native.Nat.{_+_, _-_, _≤_}
 use borrow.Author.Needs.{needs}
 use native.Mathlib.Omega.{arith}

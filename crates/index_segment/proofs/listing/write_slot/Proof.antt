@@ -1,5 +1,4 @@
 -- `index_segment::listing::write_slot` meets its contract.
--- Assumes nothing.
 use Prim.Native.Nat.{_+_, _≤_}
 use borrow.Author.Needs.{needs}
 use native.Mathlib.Omega.{arith}

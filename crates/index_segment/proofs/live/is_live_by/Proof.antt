@@ -1,5 +1,4 @@
 -- `index_segment::live::is_live_by` meets its contract: the mask of L ones keeps the low L bits, and those give the index.
--- Assumes nothing.
 use Prim.Native.Nat.{ℕ, _*_, _-_, _%_, _^_, _≤_}
 use borrow.Author.Needs.{needs}
 use borrow.Author.Tests.{eq-eqb, ne-eqb}

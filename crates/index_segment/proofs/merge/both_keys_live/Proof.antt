@@ -1,5 +1,4 @@
 -- `index_segment::merge::both_keys_live` meets its contract.
--- Assumes nothing.
 use borrow.Author.Needs.{needs}
 use Prim.Native.Nat.{_*_}
 use native.Mathlib.Nat.{add-zero}

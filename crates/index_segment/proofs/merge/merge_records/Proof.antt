@@ -1,5 +1,4 @@
 -- `index_segment::merge::merge_records` meets its contract. The invariant: the stores of the slots so far are due.
--- Assumes nothing.
 use Prim.Native.Nat.{_+_, _*_, _-_, _≤_}
 use borrow.Author.Needs.{needs}
 use native.Mathlib.Omega.{arith}

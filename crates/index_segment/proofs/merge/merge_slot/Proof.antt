@@ -1,5 +1,4 @@
 -- `index_segment::merge::merge_slot` meets its contract.
--- Assumes nothing.
 use Prim.Native.Nat.{_+_, _*_}
 use borrow.Author.Needs.{needs}
 use native.Mathlib.Nat.{add-zero}

@@ -1,5 +1,4 @@
 -- `index_segment::merge::some_both_live` meets its contract. The invariant: no slot so far is live on both sides.
--- Assumes nothing.
 use Prim.Native.Nat.{_-_, _≤_}
 use borrow.Author.Needs.{needs}
 use native.Mathlib.Omega.{arith}

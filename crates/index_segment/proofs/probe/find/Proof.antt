@@ -1,6 +1,5 @@
 -- `index_segment::probe::find` meets its contract. The invariants: no slot of the buckets so far has the key, and none of the
 -- slots so far of the present bucket.
--- Assumes nothing.
 use Prim.Native.Nat.{_-_, _≤_, _<_}
 use borrow.Author.Needs.{needs}
 use native.Mathlib.Omega.{arith}

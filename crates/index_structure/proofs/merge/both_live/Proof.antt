@@ -1,5 +1,4 @@
 -- `index_structure::merge::both_live` meets its contract.
--- Assumes nothing.
 use borrow.Author.Needs.{needs}
 use mathlib.Core.Path.{_∙_}
 use Rattle.index_layout.specs.Blocks.{shared}

@@ -1,5 +1,4 @@
 -- `index_structure::merge::join_halves` meets its contract.
--- Assumes nothing.
 use borrow.Author.Needs.{needs}
 use native.Mathlib.Omega.{arith}
 use Rattle.index_structure.proofs.Merges.{pair-fits, mergeable, entries-ready, merge-made}

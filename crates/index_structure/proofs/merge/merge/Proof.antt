@@ -1,5 +1,4 @@
 -- `index_structure::merge::merge` meets its contract.
--- Assumes nothing.
 use borrow.Author.Needs.{needs}
 use mathlib.Core.Path.{refl, sym, _∙_}
 use Rattle.index_structure.proofs.Merges.{pair-fits, mergeable, both-are, paired-none, pair-ready}

@@ -1,5 +1,4 @@
 -- `index_structure::merge::merge_slots` meets its contract.
--- Assumes nothing.
 use borrow.Author.Needs.{needs}
 use Rattle.index_layout.specs.Blocks.{shared}
 use Rattle.index_structure.proofs.Merges.{slots-made}

@@ -1,5 +1,4 @@
 -- `index_structure::merge::merging_of` meets its contract.
--- Assumes nothing.
 use borrow.Author.Needs.{needs}
 use native.Mathlib.Omega.{arith}
 use Rattle.index_structure.proofs.merge.merging_of.Statement.{statement}

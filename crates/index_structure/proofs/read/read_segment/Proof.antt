@@ -1,5 +1,4 @@
 -- `index_structure::read::read_segment` meets its contract. The invariant: the words so far are the segment's.
--- Assumes nothing.
 use borrow.Author.Needs.{needs}
 use native.Mathlib.Omega.{arith}
 use mathlib.Core.Path.{_≡_}

@@ -1,5 +1,4 @@
 -- `index_structure::split::halve` meets its contract.
--- Assumes nothing.
 use Rattle.index_laws.proofs.Keys.{first-lt}
 use Rattle.index_structure.proofs.Splits.{update-ready, halve-done}
 use borrow.Author.Needs.{needs}

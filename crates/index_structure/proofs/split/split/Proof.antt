@@ -1,5 +1,4 @@
 -- `index_structure::split::split` meets its contract.
--- Assumes nothing.
 use Rattle.index_structure.proofs.Splits.{no-segment, can-split, split-made}
 use native.Mathlib.Omega.{arith}
 use borrow.Author.Needs.{needs}

@@ -1,5 +1,4 @@
 -- `index_structure::split::split_into` meets its contract.
--- Assumes nothing.
 use native.Mathlib.Omega.{arith}
 use Rattle.stores.proofs.Loops.{executed-length}
 use Rattle.index_layout.proofs.Shapes.{bounds}

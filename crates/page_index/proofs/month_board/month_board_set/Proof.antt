@@ -1,5 +1,4 @@
 -- `page_index::month_board::month_board_set` meets its contract.
--- Assumes nothing.
 use borrow.Author.Needs.{needs}
 use Rattle.page_index.proofs.Tellings.{told-answered}
 use Rattle.page_index.proofs.month_board.month_board_set.Statement.{statement}

@@ -1,5 +1,4 @@
 -- `text::number::read_number` meets its contract. The invariant: what is still to be read behind `value` is the field's number.
--- Assumes nothing.
 use mathlib.Core.Path.{_≡_, refl, sym, ap, _∙_}
 use Prim.Native.Nat.{suc, _-_, _≤_}
 use lib.ListN.{length, getD, drop}

@@ -1,5 +1,4 @@
 -- `text::number::with_digit` meets its contract.
--- Assumes nothing.
 use Prim.Native.Nat.{_+_, _-_, _*_, _^_}
 use borrow.Author.Tests.{lt-ltb, le-ltb, le-leb, lt-leb}
 use native.Mathlib.Omega.{arith}

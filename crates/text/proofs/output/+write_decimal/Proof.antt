@@ -1,5 +1,4 @@
 -- `text::output::write_decimal` meets its contract. The measure is the number itself.
--- Assumes nothing.
 use Prim.Native.Nat.{ℕ, _/_, _%_, _<_}
 use native.Mathlib.Omega.{arith}
 use borrow.Author.Needs.{needs}

@@ -1,5 +1,4 @@
 -- `text::output::write_byte` meets its contract.
--- Assumes nothing.
 use borrow.Author.Needs.{needs}
 use Rattle.stores.proofs.Written.{written-one}
 use Rattle.text.proofs.output.write_byte.Statement.{statement}

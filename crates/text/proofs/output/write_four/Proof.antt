@@ -1,5 +1,4 @@
 -- `text::output::write_four` meets its contract.
--- Assumes nothing.
 use Prim.Native.Nat.{_/_, _%_}
 use native.Mathlib.Omega.{arith}
 use borrow.Author.Needs.{needs}

@@ -1,5 +1,4 @@
 -- `text::output::write_short` meets its contract.
--- Assumes nothing.
 use Prim.Native.Nat.{_%_}
 use mathlib.Core.List.{[], _∷_}
 use native.Mathlib.Omega.{arith}

@@ -1,5 +1,4 @@
 -- `text::script::next_line` meets its contract. The invariant: the lines from `from` on are those from `start` on.
--- Assumes nothing.
 use mathlib.Core.Path.{_≡_, refl, _∙_}
 use Prim.Native.Nat.{_-_, _≤_}
 use lib.ListN.{length, drop}
