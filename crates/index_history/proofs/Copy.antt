@@ -1,6 +1,6 @@
 -- The copy step of a split, for an index and its block's bits: the new segment holds what the old one holds for the right half.
 use mathlib.Core.Path.{_≡_, sym, _∙_}
-use mathlib.Core.Bool.{true, false}
+use mathlib.Core.Bool.{true}
 use mathlib.Core.List.{List, [], _∷_, List·Memᴰ}
 use mathlib.Core.Logic.{_⊎_, inl, inr, ⊎-elim}
 use Prim.Native.Nat.{ℕ, suc, _+_, _*_, _^_, _<_}
@@ -9,7 +9,7 @@ use lib.ListN.{length}
 use lib.Pow.{pow-pos}
 use Rattle.stores.specs.Lists.{pick}
 use Rattle.stores.specs.Store.{Store, word, store, apply, exec, Every}
-use Rattle.stores.proofs.Tests.{cases}
+use Rattle.stores.proofs.Tests.{by-test}
 use Rattle.stores.proofs.Lists.{every-pick}
 use Rattle.stores.proofs.Stores.{length-exec, word-set-same}
 use Rattle.stores.proofs.Prefixes.{Always, always-whole, exec-elsewhere}
@@ -43,11 +43,9 @@ module _ (a : List ℕ) (from to L bits j : ℕ) (h : j < 64) (b : List ℕ) whe
   unfolding copying copySlot apply
   copied-key inside =
       slot-alone to (copySlot a from to L bits) (slot-stores a from to L bits) j (keyAddress to j) 64 b (key-in-slot to j) h
-      ∙ ⊎-elim
-      (λ (t : moves a from L bits j ≡ true).
-      rw t (record-key to j (keyAt a from j) (valueAt a from j) b inside))
-      (λ (t : moves a from L bits j ≡ false). rw t (word-set-same b (keyAddress to j) 0 inside))
-      (cases (moves a from L bits j))
+      ∙ by-test (moves a from L bits j)
+      (λ t. rw t (record-key to j (keyAt a from j) (valueAt a from j) b inside))
+      (λ t. rw t (word-set-same b (keyAddress to j) 0 inside))
 
   -- The value of a record that moves.
   copied-value : valueAddress to j < length b → moves a from L bits j ≡ true
@@ -124,11 +122,9 @@ module _ {m : Map} {g d S : ℕ} {f : ℕ → ℕ} {a : List ℕ} (inv : Inv m g
       ⊎ (keyAt (apply (copies a g d f i n) a) (segmentAddress d n) j ≡ 0)
   new-key j h =
       let moved = moves a (baseAt d f i) (localDepth (f i)) (bitsAt g f i) j in
-      ⊎-elim
-      (λ (t : moved ≡ true).
-      inl (rw t at (key-now j h), sym (moves-live a (baseAt d f i) (localDepth (f i)) (bitsAt g f i) j) ∙ t))
-      (λ (t : moved ≡ false). inr (rw t at (key-now j h)))
-      (cases moved)
+      by-test moved
+      (λ t. inl (rw t at (key-now j h), sym (moves-live a (baseAt d f i) (localDepth (f i)) (bitsAt g f i) j) ∙ t))
+      (λ t. inr (rw t at (key-now j h)))
 
   copied-holds : (key : ℕ) → live (suc (localDepth (f i))) (2 * bitsAt g f i + 1) key ≡ true
       → Holds (m key) (apply (copies a g d f i n) a) (segmentAddress d n) key

@@ -1,19 +1,15 @@
 -- Mending finishes a merge once its first entry is stored, before that leaves it undone, and can be done: on every array with a consistent
 -- directory.
 use mathlib.Core.Path.{_≡_, sym, ap, _∙_}
-use mathlib.Core.Bool.{true, false}
 use mathlib.Core.List.{List, _++_}
 use mathlib.Core.Option.{none}
-use mathlib.Core.Logic.{⊎-elim}
 use Prim.Native.Nat.{ℕ, suc, _-_, _^_, _≤_, _<_}
 use native.Mathlib.Nat.{le-refl}
 use native.Mathlib.Omega.{arith}
-use borrow.Author.Tests.{ltb-true, ltb-false}
-use lib.Dec.{ltb}
 use lib.ListN.{length}
 use lib.Pow.{pow-pos}
 use Rattle.stores.specs.Store.{word, apply, exec}
-use Rattle.stores.proofs.Tests.{cases}
+use Rattle.stores.proofs.Tests.{by-less}
 use Rattle.stores.proofs.Stores.{apply-append, length-apply, length-exec, exec-all}
 use Rattle.stores.proofs.Prefixes.{exec-elsewhere, apply-elsewhere}
 use Rattle.replies.proofs.Outcomes.{changed-after, tested-none}
@@ -170,16 +166,13 @@ pub mending-is-done : MendingIsDone
 mending-is-done a key n k c t enough =
     let p = merge-passed a key t in
     let v = p .tests .valid in
-    ⊎-elim
-    (λ (q : ltb (slotStores a key) n ≡ true).
-    let stored = ltb-true (slotStores a key) n q in
+    by-less (slotStores a key) n
+    (λ stored.
     rw (past-slots p t n stored)
     (enough-mends (whole-settled p) (first-stored p (n - slotStores a key) (omega arith))
     (same-header a _ (whole-word-0 p) (whole-length p) v) (ap segmentsIn (whole-word-0 p)) k enough))
-    (λ (q : ltb (slotStores a key) n ≡ false).
-    let early = ltb-false (slotStores a key) n q in
+    (λ early.
     let s = slots-settled p n in
     rw (within-slots p t n early)
     (enough-mends s (toward-itself s)
     (same-header a _ (slots-word-0 p n) (length-exec (slotsMerged a (index key (depth a)) (keyEntry a key)) n a) v) (ap segmentsIn (slots-word-0 p n)) k enough))
-    (cases (ltb (slotStores a key) n))
