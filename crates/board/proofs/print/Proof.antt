@@ -31,7 +31,9 @@ write-year-requires c κs =
 
 returns-4 : tie.Need-returns-4
 returns-4 c =
-    printed-done _ _ _ _ _ _ _ (sym (c .before .before .before .before .before .before .before .before .before .before .before .valid-year .ensures) ∙ not-false _ (c .before .before .before .before .before .before .before .before .before .before .if1 .left)) (counted-bytes _ _ _ (c .before .before .before .before .before .before .before .before .before .count-year .ensures) (c .before .before .before .before .before .before .before .bytes .given .1)) (c .before .before .before .before .before .if2 .left) (c .before .before .before .write-year .ensures) (c .without-store4 .ensures)
+    let at-count-year = c .before .before .before .before .before .before .before .before .before in
+    let at-if1 = at-count-year .before in
+    printed-done _ _ _ _ _ _ _ (sym (at-if1 .before .valid-year .ensures) ∙ not-false _ (at-if1 .if1 .left)) (counted-bytes _ _ _ (at-count-year .count-year .ensures) (c .before .before .before .before .before .before .before .bytes .given .1)) (c .before .before .before .before .before .if2 .left) (c .before .before .before .write-year .ensures) (c .without-store4 .ensures)
 
 pub print-spec : {M : Type 1} → statement M
 print-spec =

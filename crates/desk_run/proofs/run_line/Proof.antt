@@ -12,7 +12,8 @@ returns c =
 
 returns-2 : tie.Need-returns-2
 returns-2 c =
-    line-called _ _ _ _ _ _ _ _ _ _ _ _ (sym (c .before .before .before .before .before .before .before .before .before .before .before .before .before .before .read-line .ensures) ∙ ap lineSaid (c .before .before .before .before .before .before .before .before .before .before .before .before .letter .given .1))
+    let at-letter = c .before .before .before .before .before .before .before .before .before .before .before .before in
+    line-called _ _ _ _ _ _ _ _ _ _ _ _ (sym (at-letter .before .before .read-line .ensures) ∙ ap lineSaid (at-letter .letter .given .1))
     (c .before .before .before .before .before .before .before .before .perform .ensures) (c .before .before .write-answer .ensures)
 
 pub run-line-spec : {M : Type 1} → statement M

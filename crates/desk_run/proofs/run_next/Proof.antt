@@ -9,11 +9,14 @@ returns c =
     next-none _ _ _ _ (c .before .next-line .ensures) _ _ _ _ (c .if1 .taken)
 
 run-line-requires : tie.Need-run-line-requires
-run-line-requires c κs = next-room _ _ _ _ (c .before .before .before .before .before .next-line .ensures) (c .before .before .before .before .before .before .before .before .before .before .args .list .now) (c .before .before .before .before .before .before .before .before .before .before .args .words .now) _ (c .before .before .before .before .before .before .before .before .before .before .args .out .now) (c .before .before .before .before .if1 .left) (c .before .before .before .before .before .before .before .before .before .before .pre)
+run-line-requires c κs =
+    let start = c .before .before .before .before .before .before .before .before .before .before in
+    next-room _ _ _ _ (c .before .before .before .before .before .next-line .ensures) (start .args .list .now) (start .args .words .now) _ (start .args .out .now) (c .before .before .before .before .if1 .left) (start .pre)
 
 returns-2 : tie.Need-returns-2
 returns-2 c =
-    next-ran _ _ _ _ (c .before .before .before .before .before .before .before .before .before .before .before .before .next-line .ensures) _ _ _ _ (c .before .before .before .before .before .before .before .before .before .before .before .if1 .left) _ _ _ (c .before .before .before .before .before .before .run-line .ensures)
+    let at-if1 = c .before .before .before .before .before .before .before .before .before .before .before in
+    next-ran _ _ _ _ (at-if1 .before .next-line .ensures) _ _ _ _ (at-if1 .if1 .left) _ _ _ (c .before .before .before .before .before .before .run-line .ensures)
 
 pub run-next-spec : {M : Type 1} → statement M
 run-next-spec =

@@ -48,13 +48,17 @@ write-block-requires c κs =
 
 following-requires : tie.Need-following-requires
 following-requires c κs =
-    let h = listable-as _ _ (c .before .before .before .before .before .before .before .before .before .before .before .before .before .header-to-list .ensures) _ (c .before .before .before .before .before .before .before .before .before .before .before .header .given .1) in
+    let at-header = c .before .before .before .before .before .before .before .before .before .before .before in
+    let h = listable-as _ _ (at-header .before .before .header-to-list .ensures) _ (at-header .header .given .1) in
     bounds (h .0) .depth-high
 
 returns-4 : tie.Need-returns-4
 returns-4 c =
-    let h = listable-as _ _ (c .before .before .before .before .before .before .before .before .before .before .before .before .before .before .before .header-to-list .ensures) _ (c .before .before .before .before .before .before .before .before .before .before .before .before .before .header .given .1) in
-    let f = found-at _ _ _ (c .before .before .before .before .before .before .before .before .before .before .before .find-block .ensures) _ (c .before .before .before .before .before .before .before .before .before .place .given .1) in
+    let at-place = c .before .before .before .before .before .before .before .before .before in
+    let at-find-block = at-place .before .before in
+    let at-header = at-find-block .before .before in
+    let h = listable-as _ _ (at-header .before .before .header-to-list .ensures) _ (at-header .header .given .1) in
+    let f = found-at _ _ _ (at-find-block .find-block .ensures) _ (at-place .place .given .1) in
     let led = place-records _ _ _ (f .1) in
     let n = c .before .before .before .before .before .before .before .count-block .ensures .0 ∙ ap (λ (rs : List Record). length rs) led in
     let g = c .before .following .ensures ∙ following-read (h .0) _ _ (f .1) in

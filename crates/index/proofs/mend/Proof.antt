@@ -31,8 +31,10 @@ mend-entries-requires c κs =
 
 returns-3 : tie.Need-returns-3
 returns-3 c =
-    let d = header-valid _ _ (c .before .before .before .before .before .before .before .before .before .before .before .read-header .ensures) _ (c .before .before .before .before .before .before .before .before .before .header .given .1) in
-    let v = verdict-valid (c .before .before .before .before .before .before .before .before .before .before .before .before .before .before .args .words .now) (c .before .before .before .before .before .before .scan .result) (c .before .before .before .before .before .before .scan .ensures) (λ q. ⊎-elim (λ e. omega (arith, rw q at e)) (λ e. omega (arith, rw q at e)) (c .before .before .before .before .before .match2 .keys2)) in
+    let at-header = c .before .before .before .before .before .before .before .before .before in
+    let at-read-header = at-header .before .before in
+    let d = header-valid _ _ (at-read-header .read-header .ensures) _ (at-header .header .given .1) in
+    let v = verdict-valid (at-read-header .before .before .before .args .words .now) (c .before .before .before .before .before .before .scan .result) (c .before .before .before .before .before .before .scan .ensures) (λ q. ⊎-elim (λ e. omega (arith, rw q at e)) (λ e. omega (arith, rw q at e)) (c .before .before .before .before .before .match2 .keys2)) in
     mend-done _ _ _ (d .valid) v _ _ (c .before .before .before .mend-entries .ensures) (c .after-stores .ensures)
 
 pub mend-spec : {M : Type 1} → statement M

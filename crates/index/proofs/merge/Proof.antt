@@ -20,7 +20,8 @@ merge-requires c κs =
 
 returns-2 : tie.Need-returns-2
 returns-2 c =
-    let x = stands _ _ _ _ (c .before .before .before .before .before .before .before .before .before .before .before .place-to-change .ensures) _ (c .before .before .before .before .before .before .before .before .before .place .given .1) in
+    let at-place = c .before .before .before .before .before .before .before .before .before in
+    let x = stands _ _ _ _ (at-place .before .before .place-to-change .ensures) _ (at-place .place .given .1) in
     merge-done _ _ _ _ _ x _ _ (answer-is _ _ _ _ _ _ (c .before .before .before .before .before .before .merge .ensures) (c .before .before .due .given .1))
     (c .after-stores .ensures)
 

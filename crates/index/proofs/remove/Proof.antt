@@ -40,7 +40,8 @@ store-word-requires c κs =
 
 returns-3 : tie.Need-returns-3
 returns-3 c =
-    let x = stands _ _ _ _ (c .before .before .before .before .before .before .before .before .before .before .before .before .before .place-to-change .ensures) _ (c .before .before .before .before .before .before .before .before .before .before .before .place .given .1) in
+    let at-place = c .before .before .before .before .before .before .before .before .before .before .before in
+    let x = stands _ _ _ _ (at-place .before .before .place-to-change .ensures) _ (at-place .place .given .1) in
     remove-done _ _ _ _ _ x _ (chosen-hit (x .2) _ (c .before .before .before .before .before .before .before .before .choose-at .ensures) _ (c .before .before .before .before .before .before .slot .given .1)) _ _ (c .before .before .before .store-word .ensures) (c .after-stores .ensures)
 
 pub remove-spec : {M : Type 1} → statement M

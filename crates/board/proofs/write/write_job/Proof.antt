@@ -18,12 +18,14 @@ returns c =
 
 write-line-requires : tie.Need-write-line-requires
 write-line-requires c κs =
-    let e = line-found _ _ _ _ _ (got _ _ _ _ _ _ _ (c .before .before .before .before .before .before .job-key .ensures) (c .before .before .before .before .before .get .ensures)) _ _ (c .before .before .before .reply .given .1) (c .before .before .before .before .before .before .before .before .before .pre .0 .name-is) in
-    omega (arith, ap length e, c .before .before .before .before .before .before .before .before .before .pre .2)
+    let start = c .before .before .before .before .before .before .before .before .before in
+    let e = line-found _ _ _ _ _ (got _ _ _ _ _ _ _ (c .before .before .before .before .before .before .job-key .ensures) (c .before .before .before .before .before .get .ensures)) _ _ (c .before .before .before .reply .given .1) (start .pre .0 .name-is) in
+    omega (arith, ap length e, start .pre .2)
 
 returns-2 : tie.Need-returns-2
 returns-2 c =
-    let e = line-found _ _ _ _ _ (got _ _ _ _ _ _ _ (c .before .before .before .before .before .before .before .before .before .job-key .ensures) (c .before .before .before .before .before .before .before .before .get .ensures)) _ _ (c .before .before .before .before .before .before .reply .given .1) (c .before .before .before .before .before .before .before .before .before .before .before .before .pre .0 .name-is) in
+    let at-job-key = c .before .before .before .before .before .before .before .before .before in
+    let e = line-found _ _ _ _ _ (got _ _ _ _ _ _ _ (at-job-key .job-key .ensures) (c .before .before .before .before .before .before .before .before .get .ensures)) _ _ (c .before .before .before .before .before .before .reply .given .1) (at-job-key .before .before .before .pre .0 .name-is) in
     rw e (c .before .before .write-line .ensures)
 
 pub write-job-spec : {M : Type 1} → statement M

@@ -23,7 +23,8 @@ write-byte-requires-2 c κs =
 
 returns-2 : tie.Need-returns-2
 returns-2 c =
-    rw (c .before .before .before .before .before .before .before .before .before .reply .given .1, end-value (c .before .before .before .before .before .before .before .before .before .reply .given .0 .0))
+    let at-reply = c .before .before .before .before .before .before .before .before .before in
+    rw (at-reply .reply .given .1, end-value (at-reply .reply .given .0 .0))
     (written-append (_ ∷ decimal _) (_ ∷ []) _ _ _ _ _ _ (search needs) (c .before .before .before .before .before .before .write-field .ensures) (c .before .before .write-byte2 .ensures))
 
 pub write-end-spec : {M : Type 1} → statement M

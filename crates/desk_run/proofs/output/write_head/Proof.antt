@@ -9,8 +9,9 @@ use Rattle.desk_run.proofs.output.write_head.Tie as tie
 
 returns : tie.Need-returns
 returns c =
-    written-append (_ ∷ _ ∷ []) (replyText (saidBy (c .before .before .before .before .before .before .before .before .before .before .before .before .before .args .reply))) _ _ _ _ _ _ (search needs)
-    (written-append (_ ∷ []) (_ ∷ []) _ _ _ _ _ _ (search needs) (c .before .before .before .before .before .before .before .before .before .before .write-byte .ensures) (c .before .before .before .before .before .before .write-byte2 .ensures)) (c .before .before .write-reply .ensures)
+    let at-write-byte = c .before .before .before .before .before .before .before .before .before .before in
+    written-append (_ ∷ _ ∷ []) (replyText (saidBy (at-write-byte .before .before .before .args .reply))) _ _ _ _ _ _ (search needs)
+    (written-append (_ ∷ []) (_ ∷ []) _ _ _ _ _ _ (search needs) (at-write-byte .write-byte .ensures) (c .before .before .before .before .before .before .write-byte2 .ensures)) (c .before .before .write-reply .ensures)
 
 pub write-head-spec : {M : Type 1} → statement M
 write-head-spec =

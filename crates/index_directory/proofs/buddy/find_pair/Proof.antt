@@ -62,8 +62,9 @@ returns-2 c =
 
 returns-3 : tie.Need-returns-3
 returns-3 c =
-    let k = c .before .before .before .before .before .before .before .before .before .before .before .pre in
-    let deep = c .before .before .before .before .before .before .before .before .before .if1 .left in
+    let at-if1 = c .before .before .before .before .before .before .before .before .before in
+    let k = at-if1 .before .before .pre in
+    let deep = at-if1 .if1 .left in
     let b = c .before .before .before .before .before .before .before .starts-of .ensures in
     let found =
     same-depth k deep (c .before .before .before .before .before .before .before .before .directory-index .ensures) b

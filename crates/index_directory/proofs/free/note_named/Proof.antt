@@ -40,11 +40,12 @@ note-entry-requires c κs =
 
 loop-again : tie.Need-loop-again Inv-loop μ-loop
 loop-again c =
-    let d = c .before .before .before .before .before .before .before .before .before .before .before .pre .0 in
+    let start = c .before .before .before .before .before .before .before .before .before .before .before in
+    let d = start .pre .0 in
     let v = c .before .before .before .before .before .before .loop .inv in (
       omega arith,
       c .before .before .note-entry .kept .0 ∙ v .1,
-      noted-entry (c .before .before .before .before .before .before .before .before .before .before .before .args .words .now) _ _
+      noted-entry (start .args .words .now) _ _
           (c .before .before .before .before .before .before .loop .i) (v .2)
           (rw (← entry-word _ _ d (c .before .before .before .before .before .before .before .before .pow2 .ensures), d .segments-read)
           (c .before .before .note-entry .ensures)),

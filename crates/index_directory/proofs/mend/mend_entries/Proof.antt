@@ -72,12 +72,13 @@ loop-less c = omega (arith, c .before .before .before .before .before .before)
 
 loop-again : tie.Need-loop-again Inv-loop μ-loop
 loop-again c =
-    let d = c .before .before .before .before .before .before .before .before .before .before .pre .0 .0 in
+    let start = c .before .before .before .before .before .before .before .before .before .before in
+    let d = start .pre .0 .0 in
     let k = c .before .before .before .before .before .before .before .before .pow2 .ensures in
     let i = c .before .before .before .before .before .before .before .loop .inv in
     let n = c .before .before .before .before .next-block .result in
     let p = c .before .before .mend-entry .ensures in
-    let f = mend-found d _ _ _ k (c .before .before .before .before .before .before .before .before .before .before .pre .0 .1)
+    let f = mend-found d _ _ _ k (start .pre .0 .1)
     (c .before .before .before .before .before .before .before .loop .i) _ _
     (c .before .before .before .before .before .before .before .loop .block) n
     (c .before .before .before .before .before .before .loop-test .taken) (i .3) (i .4)

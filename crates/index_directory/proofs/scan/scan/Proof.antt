@@ -36,9 +36,10 @@ scan-entry-requires c κs = let b = bounds (c .before .before .before .before .b
 
 returns : tie.Need-returns Inv-loop μ-loop
 returns c =
-    let d = c .before .before .before .before .before .before .before .before .before .pre in
+    let start = c .before .before .before .before .before .before .before .before .before in
+    let d = start .pre in
     let l = c .before .before .before .before .before .before .loop in
-    scan-stops (c .before .before .before .before .before .before .before .before .before .args .words .now) (l .i) (l .block) (l .agree)
+    scan-stops (start .args .words .now) (l .i) (l .block) (l .agree)
     (c .before .verdict .given .0 .0) (c .before .before .before .scan-entry .result)
     (rw (d .depth-read) (omega arith)) (l .inv .1) (c .before .verdict .given .1)
     (rw (← entry-word _ _ d (c .before .before .before .before .before .before .before .pow2 .ensures), d .depth-read, d .segments-read)

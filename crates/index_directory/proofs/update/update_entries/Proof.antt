@@ -22,12 +22,14 @@ fill-entries-requires c κs =
 
 fill-entries-requires-2 : tie.Need-fill-entries-requires-2
 fill-entries-requires-2 c κs =
-    let h = halves-fit (c .before .before .before .before .before .before .before .before .before .before .before .pre .0) in
+    let at-block-width = c .before .before .before .before .before .before .before .before .before in
+    let start = at-block-width .before .before in
+    let h = halves-fit (start .pre .0) in
     let p = c .before .before .before .fill-entries .ensures in
     let kept = executed-length p in
-    let w = c .before .before .before .before .before .before .before .before .before .block-width .ensures in (
+    let w = at-block-width .block-width .ensures in (
       omega (arith, c .before .before .before .before .before .before .before .before .pow2 .ensures),
-      omega (arith, c .before .before .before .before .before .before .before .before .before .before .before .pre .1, rw length-filling at (p .count)),
+      omega (arith, start .pre .1, rw length-filling at (p .count)),
     )
 
 same-length : tie.Need-same-length
@@ -37,11 +39,14 @@ same-length c =
 
 returns : tie.Need-returns
 returns c =
+    let at-pack-entry = c .before .before .before .before .before .before .before .before .before in
+    let at-pow2 = at-pack-entry .before .before in
+    let at-block-width = at-pow2 .before in
     update-done
-    (c .before .before .before .before .before .before .before .before .before .before .before .before .before .before .pre .0) _ _ _ _ _ _ _ _ _ _
-    (c .before .before .before .before .before .before .before .before .before .before .before .pow2 .ensures)
-    (c .before .before .before .before .before .before .before .before .before .before .before .before .block-width .ensures)
-    (c .before .before .before .before .before .before .before .before .before .pack-entry .ensures)
+    (at-block-width .before .before .pre .0) _ _ _ _ _ _ _ _ _ _
+    (at-pow2 .pow2 .ensures)
+    (at-block-width .block-width .ensures)
+    (at-pack-entry .pack-entry .ensures)
     (c .before .before .before .before .before .before .before .before .pack-entry2 .ensures)
     (c .before .before .before .before .before .before .fill-entries .ensures) (c .before .before .fill-entries2 .ensures)
 

@@ -53,8 +53,9 @@ usable-from-requires c κs = (omega (arith, windowBucket-lt (c .before .before .
 
 loop-again : tie.Need-loop-again Inv-loop μ-loop
 loop-again c =
-    let u = c .before .before .before .before .before .before .before .before .before .before .before .args in
-    let here = c .before .before .before .before .before .before .before .before .before .loop in
+    let at-loop = c .before .before .before .before .before .before .before .before .before in
+    let u = at-loop .before .before .args in
+    let here = at-loop .loop in
     let number = c .before .before .before .before .before .before .before .window-bucket in
     let bucket = c .before .before .before .before .before .before .bucket-at .ensures in
     let first = c .before .before .before .before .before .slot-with-key .ensures (u .segment .now) bucket in

@@ -12,11 +12,12 @@ use Rattle.index_segment.proofs.copy.copy_slot.Tie as tie
 
 returns : tie.Need-returns
 returns c =
-    let u = c .before .before .before .before .before .before .before .before .before .before .before .args in
+    let at-moves = c .before .before .before .before .before .before .before .before .before in
+    let u = at-moves .before .before .args in
     let L = u .block .«local_depth» in
     let bits = shared (u .block) in
     let j = u .slot in
-    let test = c .before .before .before .before .before .before .before .before .before .moves in
+    let test = at-moves .moves in
     let first = c .before .before .before .before .before .before .store-word in
     let second = c .before .before .store-word2 in
     λ a h.

@@ -15,12 +15,13 @@ use Rattle.index_segment.proofs.merge.merge_slot.Tie as tie
 
 returns : tie.Need-returns
 returns c =
-    let u = c .before .before .before .before .before .before .before .before .before .before .before .args in
+    let at-is-live-in-half = c .before .before .before .before .before .before .before .before .before in
+    let u = at-is-live-in-half .before .before .args in
     let M = u .joined .«local_depth» in
     let bits = shared (u .joined) in
     let j = u .slot in
     let s = u .sides in
-    let test = c .before .before .before .before .before .before .before .before .before .is-live-in-half in
+    let test = at-is-live-in-half .is-live-in-half in
     let moved : liveRight M bits (s .key) ≡ true = sym (test .ensures) ∙ c .before .before .before .before .before .before .before .before .if1 .taken in
     let first = c .before .before .before .before .before .before .store-word in
     let second = c .before .before .store-word2 in

@@ -21,10 +21,11 @@ join-entries-requires c κs =
 
 returns : tie.Need-returns
 returns c =
+    let at-merging-of = c .before .before .before .before .before .before .before .before .before in
     let made =
-    rw (c .before .before .before .before .before .before .before .before .before .merging-of .ensures) at
+    rw (at-merging-of .merging-of .ensures) at
     (c .before .before .before .before .before .before .before .merge-slots .ensures) in
-    merge-made (c .before .before .before .before .before .before .before .before .before .before .before .pre) _ _ _ _ _ made
+    merge-made (at-merging-of .before .before .pre) _ _ _ _ _ made
     (c .before .before .join-entries .ensures)
 
 pub join-halves-spec : {M : Type 1} → statement M

@@ -34,10 +34,12 @@ join-halves-requires c κs =
 
 returns-3 : tie.Need-returns-3
 returns-3 c =
-    let pre = c .before .before .before .before .before .before .before .before .before .before .before .before .before .before .pre in
+    let at-pair = c .before .before .before .before .before .before .before .before .before in
+    let at-find-pair = at-pair .before .before in
+    let pre = at-find-pair .before .before .before .pre in
     let r =
-    pair-ready (pre .0) (pre .1) (c .before .before .before .before .before .before .before .before .before .before .before .find-pair .ensures)
-    (c .before .before .before .before .before .before .before .before .before .pair .given .1) in
+    pair-ready (pre .0) (pre .1) (at-find-pair .find-pair .ensures)
+    (at-pair .pair .given .1) in
     let both = rw (c .before .before .before .before .before .before .merging-of .ensures) at (c .before .before .before .before .before .both-live .ensures) in
     record {
       buddy = r .pair-at .buddy;

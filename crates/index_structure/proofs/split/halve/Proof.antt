@@ -16,9 +16,9 @@ update-entries-requires c κs =
 
 returns : tie.Need-returns
 returns c =
+    let at-segment-base = c .before .before .before .before .before .before .before .before .before .before in
     let start = rw (c .before .before .before .before .before .directory-index .ensures) at (c .before .before .before .before .block-start .ensures) in
-    let u = c .before .before .before .before .before .before .before .before .before .before .before .before .before in
-    halve-done (u .pre .0) _ _ (c .before .before .before .before .before .before .before .before .before .before .segment-base .ensures) _ _ _ _ (c .before .before .before .before .before .before .before .before .copy-records .ensures) _ _ _ start
+    halve-done (at-segment-base .before .before .before .pre .0) _ _ (at-segment-base .segment-base .ensures) _ _ _ _ (c .before .before .before .before .before .before .before .before .copy-records .ensures) _ _ _ start
     (c .before .before .update-entries .ensures)
 
 pub halve-spec : {M : Type 1} → statement M

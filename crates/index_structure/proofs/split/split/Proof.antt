@@ -18,7 +18,8 @@ split-into-requires c κs =
 
 returns-3 : tie.Need-returns-3
 returns-3 c =
-    split-made (c .before .before .before .before .before .before .before .before .before .before .before .before .before .before .pre) (λ e. omega (arith, c .before .before .before .before .before .before .before .before .before .if1 .left)) (c .before .before .before .before .before .before .before .free-segment .ensures) (c .before .before .before .before .before .new-segment .given .1)
+    let at-if1 = c .before .before .before .before .before .before .before .before .before in
+    split-made (at-if1 .before .before .before .before .before .pre) (λ e. omega (arith, at-if1 .if1 .left)) (c .before .before .before .before .before .before .before .free-segment .ensures) (c .before .before .before .before .before .new-segment .given .1)
     (c .before .before .split-into .ensures)
 
 pub split-spec : {M : Type 1} → statement M

@@ -20,7 +20,8 @@ halve-requires c κs =
 
 returns : tie.Need-returns
 returns c =
-    split-doubled (c .before .before .before .before .before .before .before .before .before .before .before .before .before .before .pre) (c .before .before .before .before .before .before .before .before .before .before .read-segment .ensures) (c .before .before .before .before .before .before .before .before .if1 .taken) _ _ _ _ _ (c .before .before .before .before .before .before .double .ensures) (c .before .before .halve .ensures)
+    let at-read-segment = c .before .before .before .before .before .before .before .before .before .before in
+    split-doubled (at-read-segment .before .before .before .before .pre) (at-read-segment .read-segment .ensures) (c .before .before .before .before .before .before .before .before .if1 .taken) _ _ _ _ _ (c .before .before .before .before .before .before .double .ensures) (c .before .before .halve .ensures)
 
 halve-requires-2 : tie.Need-halve-requires-2
 halve-requires-2 c κs =

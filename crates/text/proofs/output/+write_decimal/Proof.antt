@@ -50,9 +50,10 @@ write-decimal-write-four-requires t c κs =
 
 write-decimal-returns-2 : (t : ℕ) → write-decimal-lts.Need-returns-2 (learnt t) (write-decimal-at t) write-decimal.Post
 write-decimal-returns-2 t c =
-    let n = c .before .before .before .before .before .before .before .before .before .before .args .n in
+    let start = c .before .before .before .before .before .before .before .before .before .before in
+    let n = start .args .n in
     rw (decimal-four-more n (c .before .before .before .before .before .before .before .before .if1 .left) (search needs))
-    (written-append (decimal (n / 10000)) (fourDigits (n % 10000)) _ _ _ _ _ _ (omega (arith, c .before .before .before .before .before .before .before .before .before .before .pre .1)) (c .before .before .before .before .before .before .write-decimal .ensures) (c .before .before .write-four .ensures))
+    (written-append (decimal (n / 10000)) (fourDigits (n % 10000)) _ _ _ _ _ _ (omega (arith, start .pre .1)) (c .before .before .before .before .before .before .write-decimal .ensures) (c .before .before .write-four .ensures))
 
 pub +write-decimal-spec : {M : Type 1} → statement M
 +write-decimal-spec = close μ-write-decimal λ t. write-decimal-lts.spec (learnt t)

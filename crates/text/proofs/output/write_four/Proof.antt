@@ -15,7 +15,8 @@ write-two-requires-2 c κs = (omega arith, omega (arith, c .before .before .befo
 
 returns : tie.Need-returns
 returns c =
-    written-append (twoDigits (c .before .before .before .before .before .before .before .before .before .args .n / 100)) (twoDigits (c .before .before .before .before .before .before .before .before .before .args .n % 100)) _ _ _ _ _ _ (omega (arith, c .before .before .before .before .before .before .before .before .before .pre .1)) (c .before .before .before .before .before .before .write-two .ensures) (c .before .before .write-two2 .ensures)
+    let start = c .before .before .before .before .before .before .before .before .before in
+    written-append (twoDigits (start .args .n / 100)) (twoDigits (start .args .n % 100)) _ _ _ _ _ _ (omega (arith, start .pre .1)) (c .before .before .before .before .before .before .write-two .ensures) (c .before .before .write-two2 .ensures)
 
 pub write-four-spec : {M : Type 1} → statement M
 write-four-spec = tie.close (tie.spec write-two-requires write-two-requires-2 (λ c. search needs) returns)

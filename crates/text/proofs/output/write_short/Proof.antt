@@ -27,15 +27,18 @@ write-byte-requires-2 c κs =
     omega (arith, c .before .before .before .before .before .pre .1, length-three-digits (c .before .before .before .before .before .args .n) (c .before .before .if2 .left) (c .before .if3 .taken))
 
 write-two-requires-2 : tie.Need-write-two-requires-2
-write-two-requires-2 c κs = (
-  omega arith,
-  omega (arith, c .before .before .before .before .before .before .before .before .before .pre .1, length-three-digits (c .before .before .before .before .before .before .before .before .before .args .n) (c .before .before .before .before .before .before .if2 .left) (c .before .before .before .before .before .if3 .taken), c .before .before .before .write-byte2 .ensures .behind),
-)
+write-two-requires-2 c κs =
+    let start = c .before .before .before .before .before .before .before .before .before in (
+      omega arith,
+      omega (arith, start .pre .1, length-three-digits (start .args .n) (c .before .before .before .before .before .before .if2 .left) (c .before .before .before .before .before .if3 .taken), c .before .before .before .write-byte2 .ensures .behind),
+    )
 
 returns-3 : tie.Need-returns-3
 returns-3 c =
-    rw (decimal-three (c .before .before .before .before .before .before .before .before .before .before .before .before .args .n) (c .before .before .before .before .before .before .before .before .before .if2 .left) (c .before .before .before .before .before .before .before .before .if3 .taken))
-    (written-append (_ ∷ []) (twoDigits (c .before .before .before .before .before .before .before .before .before .before .before .before .args .n % 100)) _ _ _ _ _ _ (omega (arith, c .before .before .before .before .before .before .before .before .before .before .before .before .pre .1)) (c .before .before .before .before .before .before .write-byte2 .ensures) (c .before .before .write-two2 .ensures))
+    let at-if2 = c .before .before .before .before .before .before .before .before .before in
+    let start = at-if2 .before .before .before in
+    rw (decimal-three (start .args .n) (at-if2 .if2 .left) (c .before .before .before .before .before .before .before .before .if3 .taken))
+    (written-append (_ ∷ []) (twoDigits (start .args .n % 100)) _ _ _ _ _ _ (omega (arith, start .pre .1)) (c .before .before .before .before .before .before .write-byte2 .ensures) (c .before .before .write-two2 .ensures))
 
 write-four-requires : tie.Need-write-four-requires
 write-four-requires c κs =
