@@ -327,7 +327,7 @@ module _ {m : Map} {g d S M : ℕ} {f : ℕ → ℕ} {a : List ℕ} {i left righ
 
   -- An index is in the joined block, or its entry is as it was.
   by-place : (k : ℕ) (P : Type 0) → (blockBits g M k ≡ blockBits g M i → P) → (joined k ≡ f k → P) → P
-  by-place k P inside outside = by-equal (blockBits g M k) (blockBits g M i) (λ t. inside t) (λ t. outside (joined-out g M f i left k t))
+  by-place k P inside outside = by-equal (blockBits g M k) (blockBits g M i) inside (λ t. outside (joined-out g M f i left k t))
 
   -- The array between slots and entries serves both directories.
   serves : Serves m g d S joined i right between

@@ -7,9 +7,6 @@ use Rattle.board.proofs.Lines.{length-line}
 use Rattle.board.proofs.line.line_length.Statement.{statement}
 use Rattle.board.proofs.line.line_length.Tie as tie
 
-add-result : tie.Need-add-result
-add-result c = omega (arith, c .decimal-length .ensures, length-decimal (c .before .args .number))
-
 add-result-2 : tie.Need-add-result-2
 add-result-2 c =
     omega (arith, c .before .decimal-length .ensures, length-decimal (c .before .before .args .number), c .decimal-length2 .ensures, length-decimal (c .before .before .args .pages))
@@ -22,4 +19,9 @@ returns c =
 pub line-length-spec : {M : Type 1} → statement M
 line-length-spec =
     tie.close
-    (tie.spec (λ c κs. search needs) add-result (λ c κs. search needs) add-result-2 returns)
+    (tie.spec
+    (λ c κs. search needs)
+    (λ c. omega (arith, c .decimal-length .ensures, length-decimal (c .before .args .number)))
+    (λ c κs. search needs)
+    add-result-2
+    returns)

@@ -8,9 +8,6 @@ use Rattle.index.proofs.Listings.{leads-not-behind, entry-low, leads-he
 use Rattle.index.proofs.listing.find_block.Statement.{statement}
 use Rattle.index.proofs.listing.find_block.Tie as tie
 
-pow2-requires : tie.Need-pow2-requires
-pow2-requires c κs = let b = bounds (c .before .pre .0) in omega arith
-
 returns : tie.Need-returns
 returns c = leads-not-behind (c .before .before .before .pre) _ (c .before .pow2 .ensures) _ (c .if1 .taken)
 
@@ -59,7 +56,7 @@ pub find-block-spec : {M : Type 1} → statement M
 find-block-spec =
     tie.close
     (tie.spec
-    pow2-requires
+    (λ c κs. let b = bounds (c .before .pre .0) in omega arith)
     returns
     add-local-depth-of
     mul-local-depth-of

@@ -5,9 +5,6 @@ use Rattle.index_rules.specs.ListBlock.{following}
 use Rattle.index.proofs.listing.following.Statement.{statement}
 use Rattle.index.proofs.listing.following.Tie as tie
 
-pow2-requires : tie.Need-pow2-requires
-pow2-requires c κs = omega (arith, c .pre)
-
 returns : tie.Need-returns
 unfolding following
 returns c = rw (← c .before .pow2 .ensures, lt-ltb _ _ (c .if1 .taken))
@@ -17,4 +14,4 @@ unfolding following
 returns-2 c = rw (← c .before .pow2 .ensures, le-ltb _ _ (c .if1 .left))
 
 pub following-spec : {M : Type 1} → statement M
-following-spec = tie.close (tie.spec pow2-requires returns returns-2)
+following-spec = tie.close (tie.spec (λ c κs. omega (arith, c .pre)) returns returns-2)

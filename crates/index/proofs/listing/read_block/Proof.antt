@@ -8,9 +8,6 @@ use Rattle.index.proofs.Listings.{leader-below, leader-bounds}
 use Rattle.index.proofs.listing.read_block.Statement.{statement}
 use Rattle.index.proofs.listing.read_block.Tie as tie
 
-pow2-requires : tie.Need-pow2-requires
-pow2-requires c κs = let b = bounds (c .before .pre .0 .0) in omega arith
-
 add-at : tie.Need-add-at
 add-at c = let b = bounds (c .before .before .pre .0 .0) in omega (arith, leader-below (c .before .before .pre .0 .0) (c .before .before .pre .0 .1) _ (c .before .before .pre .1))
 
@@ -59,7 +56,7 @@ pub read-block-spec : {M : Type 1} → statement M
 read-block-spec =
     tie.close
     (tie.spec
-    pow2-requires
+    (λ c κs. let b = bounds (c .before .pre .0 .0) in omega arith)
     add-at
     mul-entry
     shared-slice-read-entry

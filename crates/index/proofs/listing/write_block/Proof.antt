@@ -5,15 +5,6 @@ use Rattle.index_segment.proofs.Parts.{span, part-length, part-records}
 use Rattle.index.proofs.listing.write_block.Statement.{statement}
 use Rattle.index.proofs.listing.write_block.Tie as tie
 
-add-write-live : tie.Need-add-write-live
-add-write-live c = omega (arith, c .before .before .pre .0 .0)
-
-mul-write-live : tie.Need-mul-write-live
-mul-write-live c = omega (arith, c .before .before .pre .0 .0)
-
-part-write-live-end : tie.Need-part-write-live-end
-part-write-live-end c = omega (arith, c .before .before .pre .0 .0)
-
 write-live-requires : tie.Need-write-live-requires
 write-live-requires c κs =
     let p = c .before .before .before .before .pre in
@@ -29,11 +20,11 @@ pub write-block-spec : {M : Type 1} → statement M
 write-block-spec =
     tie.close
     (tie.spec
-    add-write-live
-    mul-write-live
+    (λ c. omega (arith, c .before .before .pre .0 .0))
+    (λ c. omega (arith, c .before .before .pre .0 .0))
     (λ c. search needs)
     (λ c. search needs)
-    part-write-live-end
+    (λ c. omega (arith, c .before .before .pre .0 .0))
     write-live-requires
     (λ c. search needs)
     returns)

@@ -27,9 +27,6 @@ Inv-loop words header list₀ count at₀ i₀ list at i =
 abbrev μ-loop : tie.MeasureT-loop
 μ-loop words header list₀ count at₀ i₀ list at i = count - i
 
-pow2-requires : tie.Need-pow2-requires Inv-loop μ-loop
-pow2-requires c κs = let b = bounds (c .before .before .pre .0 .0) in omega arith
-
 loop-holds : tie.Need-loop-holds Inv-loop μ-loop
 loop-holds c = (omega arith, leader-zero _ _, refl, rw (records-start, words-none) (written-none 0 _))
 
@@ -81,7 +78,7 @@ write-records-spec =
     (tie.spec
     Inv-loop
     μ-loop
-    pow2-requires
+    (λ c κs. let b = bounds (c .before .before .pre .0 .0) in omega arith)
     loop-holds
     read-block-requires
     write-block-requires

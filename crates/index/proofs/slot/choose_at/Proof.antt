@@ -8,15 +8,6 @@ use borrow.Author.Needs.{needs}
 use Rattle.index.proofs.slot.choose_at.Statement.{statement}
 use Rattle.index.proofs.slot.choose_at.Tie as tie
 
-add-choose : tie.Need-add-choose
-add-choose c = let p = place-bounds (c .before .pre) in omega arith
-
-mul-choose : tie.Need-mul-choose
-mul-choose c = let p = place-bounds (c .before .pre) in omega arith
-
-part-choose-end : tie.Need-part-choose-end
-part-choose-end c = let p = place-bounds (c .before .pre) in omega arith
-
 choose-requires : tie.Need-choose-requires
 choose-requires c κs = let p = place-bounds (c .before .before .pre) in (search needs, p .local-small)
 
@@ -30,10 +21,10 @@ pub choose-at-spec : {M : Type 1} → statement M
 choose-at-spec =
     tie.close
     (tie.spec
-    add-choose
-    mul-choose
+    (λ c. let p = place-bounds (c .before .pre) in omega arith)
+    (λ c. let p = place-bounds (c .before .pre) in omega arith)
     (λ c. search needs)
     (λ c. search needs)
-    part-choose-end
+    (λ c. let p = place-bounds (c .before .pre) in omega arith)
     choose-requires
     returns)

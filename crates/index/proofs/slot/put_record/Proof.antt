@@ -8,12 +8,6 @@ use borrow.Author.Needs.{needs}
 use Rattle.index.proofs.slot.put_record.Statement.{statement}
 use Rattle.index.proofs.slot.put_record.Tie as tie
 
-add-key-at : tie.Need-add-key-at
-add-key-at c = let p = place-bounds (c .before .before .pre .1) in omega (arith, c .before .before .pre .0)
-
-add-value-at : tie.Need-add-value-at
-add-value-at c = let p = place-bounds (c .before .before .pre .1) in omega (arith, c .before .before .pre .0)
-
 store-word-requires : tie.Need-store-word-requires
 store-word-requires c κs = let p = place-bounds (c .before .before .before .pre .1) in (omega (arith, c .before .before .before .pre .0), omega arith)
 
@@ -33,8 +27,8 @@ put-record-spec =
     tie.close
     (tie.spec
     (λ c. search needs)
-    add-key-at
-    add-value-at
+    (λ c. let p = place-bounds (c .before .before .pre .1) in omega (arith, c .before .before .pre .0))
+    (λ c. let p = place-bounds (c .before .before .pre .1) in omega (arith, c .before .before .pre .0))
     store-word-requires
     store-word-requires-2
     (λ c κs. search needs)

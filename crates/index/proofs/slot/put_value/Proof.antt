@@ -7,12 +7,6 @@ use borrow.Author.Needs.{needs}
 use Rattle.index.proofs.slot.put_value.Statement.{statement}
 use Rattle.index.proofs.slot.put_value.Tie as tie
 
-add-value-at : tie.Need-add-value-at
-add-value-at c = let p = place-bounds (c .before .before .pre .1) in omega (arith, c .before .before .pre .0)
-
-add-value-at-2 : tie.Need-add-value-at-2
-add-value-at-2 c = let p = place-bounds (c .before .before .pre .1) in omega (arith, c .before .before .pre .0)
-
 store-word-requires : tie.Need-store-word-requires
 store-word-requires c κs = let p = place-bounds (c .before .before .before .pre .1) in (omega (arith, c .before .before .before .pre .0), omega arith)
 
@@ -25,8 +19,8 @@ put-value-spec =
     tie.close
     (tie.spec
     (λ c. search needs)
-    add-value-at
-    add-value-at-2
+    (λ c. let p = place-bounds (c .before .before .pre .1) in omega (arith, c .before .before .pre .0))
+    (λ c. let p = place-bounds (c .before .before .pre .1) in omega (arith, c .before .before .pre .0))
     store-word-requires
     (λ c κs. search needs)
     (λ c. search needs)

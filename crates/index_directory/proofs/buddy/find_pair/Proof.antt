@@ -24,9 +24,6 @@ starts-of-requires c κs =
       rw (c .directory-index .ensures) (first-lt (p .bits) (p .header .depth)),
     )
 
-pow2-requires : tie.Need-pow2-requires
-pow2-requires c κs = omega (arith, bounds (c .before .before .before .before .pre .header-read) .depth-high)
-
 -- The buddy's first index is in the directory.
 inside : (c : tie.After-buddy-index) → c .buddy-index .result < 2 ^ c .before .before .before .before .before .before .args .place .header .depth
 inside c =
@@ -73,4 +70,20 @@ returns-3 c =
     rw (c .pair-of .ensures, c .before .segment-of .ensures) found
 
 pub find-pair-spec : {M : Type 1} → statement M
-find-pair-spec = tie.close (tie.spec returns directory-index-requires (λ c. search needs) starts-of-requires pow2-requires (λ c κs. search needs) add-at mul-entry shared-slice-read-entry (λ c κs. search needs) returns-2 (λ c κs. search needs) (λ c κs. search needs) returns-3)
+find-pair-spec =
+    tie.close
+    (tie.spec
+    returns
+    directory-index-requires
+    (λ c. search needs)
+    starts-of-requires
+    (λ c κs. omega (arith, bounds (c .before .before .before .before .pre .header-read) .depth-high))
+    (λ c κs. search needs)
+    add-at
+    mul-entry
+    shared-slice-read-entry
+    (λ c κs. search needs)
+    returns-2
+    (λ c κs. search needs)
+    (λ c κs. search needs)
+    returns-3)

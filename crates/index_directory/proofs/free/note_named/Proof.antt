@@ -16,19 +16,10 @@ Inv-loop words set₀ count segments i₀ set i = (i ≤ count) × BitSet set ×
 abbrev μ-loop : tie.MeasureT-loop
 μ-loop words set₀ count segments i₀ set i = count - i
 
-pow2-requires : tie.Need-pow2-requires Inv-loop μ-loop
-pow2-requires c κs = let b = bounds (c .before .before .pre .0) in omega arith
-
 loop-holds : tie.Need-loop-holds Inv-loop μ-loop
 loop-holds c =
     let p = c .before .before .before .before .pre in
     (omega arith, p .1, noted-none (c .before .before .before .before .args .words .now) _ (p .2))
-
-add-note-entry : tie.Need-add-note-entry Inv-loop μ-loop
-add-note-entry c = let b = bounds (c .before .before .before .before .before .before .before .pre .0) in omega arith
-
-mul-note-entry : tie.Need-mul-note-entry Inv-loop μ-loop
-mul-note-entry c = let b = bounds (c .before .before .before .before .before .before .before .pre .0) in omega arith
 
 shared-slice-read-note-entry : tie.Need-shared-slice-read-note-entry Inv-loop μ-loop
 shared-slice-read-note-entry c = let b = bounds (c .before .before .before .before .before .before .before .before .pre .0) in omega arith
@@ -63,11 +54,11 @@ note-named-spec =
     (tie.spec
     Inv-loop
     μ-loop
-    pow2-requires
+    (λ c κs. let b = bounds (c .before .before .pre .0) in omega arith)
     (λ c. search needs)
     loop-holds
-    add-note-entry
-    mul-note-entry
+    (λ c. let b = bounds (c .before .before .before .before .before .before .before .pre .0) in omega arith)
+    (λ c. let b = bounds (c .before .before .before .before .before .before .before .pre .0) in omega arith)
     shared-slice-read-note-entry
     note-entry-requires
     (λ c. search needs)

@@ -16,23 +16,8 @@ Inv-loop words header count block₀ agree₀ i₀ block agree i =
 abbrev μ-loop : tie.MeasureT-loop
 μ-loop words header count block₀ agree₀ i₀ block agree i = count - i
 
-pow2-requires : tie.Need-pow2-requires Inv-loop μ-loop
-pow2-requires c κs = let b = bounds (c .before .pre) in omega arith
-
 loop-holds : tie.Need-loop-holds Inv-loop μ-loop
 loop-holds c = (omega arith, scan-start _ _ _)
-
-add-scan-entry : tie.Need-add-scan-entry Inv-loop μ-loop
-add-scan-entry c = let b = bounds (c .before .before .before .before .pre) in omega arith
-
-mul-scan-entry : tie.Need-mul-scan-entry Inv-loop μ-loop
-mul-scan-entry c = let b = bounds (c .before .before .before .before .pre) in omega arith
-
-shared-slice-read-scan-entry : tie.Need-shared-slice-read-scan-entry Inv-loop μ-loop
-shared-slice-read-scan-entry c = let b = bounds (c .before .before .before .before .before .pre) in omega arith
-
-scan-entry-requires : tie.Need-scan-entry-requires Inv-loop μ-loop
-scan-entry-requires c κs = let b = bounds (c .before .before .before .before .before .pre) in omega arith
 
 returns : tie.Need-returns Inv-loop μ-loop
 returns c =
@@ -82,12 +67,12 @@ scan-spec =
     (tie.spec
     Inv-loop
     μ-loop
-    pow2-requires
+    (λ c κs. let b = bounds (c .before .pre) in omega arith)
     loop-holds
-    add-scan-entry
-    mul-scan-entry
-    shared-slice-read-scan-entry
-    scan-entry-requires
+    (λ c. let b = bounds (c .before .before .before .before .pre) in omega arith)
+    (λ c. let b = bounds (c .before .before .before .before .pre) in omega arith)
+    (λ c. let b = bounds (c .before .before .before .before .before .pre) in omega arith)
+    (λ c κs. let b = bounds (c .before .before .before .before .before .pre) in omega arith)
     (λ c. search needs)
     (λ c. search needs)
     returns

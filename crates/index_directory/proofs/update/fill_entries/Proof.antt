@@ -31,12 +31,6 @@ loop-holds c =
 store-word-requires : tie.Need-store-word-requires Inv-loop μ-loop
 store-word-requires c κs = (omega arith, omega arith)
 
-add-t : tie.Need-add-t Inv-loop μ-loop
-add-t c = omega (arith, c .before .before .before .before)
-
-loop-less : tie.Need-loop-less Inv-loop μ-loop
-loop-less c = omega (arith, c .before .before .before .before)
-
 loop-again : tie.Need-loop-again Inv-loop μ-loop
 loop-again c =
     let a = c .before .before .before .before .before .before .before .args in
@@ -70,8 +64,8 @@ fill-entries-spec =
     (λ c. search needs)
     (λ c. search needs)
     store-word-requires
-    add-t
-    loop-less
+    (λ c. omega (arith, c .before .before .before .before))
+    (λ c. omega (arith, c .before .before .before .before))
     loop-again
     same-length
     returns)

@@ -7,12 +7,6 @@ use Rattle.index_directory.proofs.Updates.{length-filling, halves-fit, 
 use Rattle.index_directory.proofs.update.update_entries.Statement.{statement}
 use Rattle.index_directory.proofs.update.update_entries.Tie as tie
 
-add-left : tie.Need-add-left
-add-left c = let h = halves-fit (c .before .before .before .before .pre .0) in omega arith
-
-add-right : tie.Need-add-right
-add-right c = let h = halves-fit (c .before .before .before .before .pre .0) in omega arith
-
 fill-entries-requires : tie.Need-fill-entries-requires
 fill-entries-requires c κs =
     let h = halves-fit (c .before .before .before .before .before .before .before .pre .0) in (
@@ -57,8 +51,8 @@ update-entries-spec =
     (λ c. search needs)
     (λ c κs. search needs)
     (λ c κs. search needs)
-    add-left
-    add-right
+    (λ c. let h = halves-fit (c .before .before .before .before .pre .0) in omega arith)
+    (λ c. let h = halves-fit (c .before .before .before .before .pre .0) in omega arith)
     (λ c. search needs)
     (λ c κs. search needs)
     (λ c. search needs)

@@ -6,9 +6,6 @@ use borrow.Author.Needs.{needs}
 use Rattle.index_layout.proofs.place.place_of.Statement.{statement}
 use Rattle.index_layout.proofs.place.place_of.Tie as tie
 
-directory-index-requires : tie.Need-directory-index-requires
-directory-index-requires c κs = let b = bounds (c .before .before .pre) in omega arith
-
 read-entry-requires : tie.Need-read-entry-requires
 read-entry-requires c κs = (c .before .before .before .pre, key-index-lt (c .before .before .before .pre) _ _ _ (c .before .open-key .ensures .1) (c .directory-index .ensures))
 
@@ -30,7 +27,7 @@ place-of-spec =
     tie.close
     (tie.spec
     (λ c κs. search needs)
-    directory-index-requires
+    (λ c κs. let b = bounds (c .before .before .pre) in omega arith)
     read-entry-requires
     (λ c. search needs)
     (λ c. search needs)

@@ -11,9 +11,6 @@ merging-of-requires c κs = pair-fits (c .before .pre)
 merge-slots-requires : tie.Need-merge-slots-requires
 merge-slots-requires c κs = rw (c .before .merging-of .ensures) (mergeable (c .before .before .before .pre))
 
-sub-t10 : tie.Need-sub-t10
-sub-t10 c = omega (arith, pair-fits (c .before .before .before .before .before .before .before .pre) .deep)
-
 join-entries-requires : tie.Need-join-entries-requires
 join-entries-requires c κs =
     let made = rw (c .before .before .before .before .before .before .merging-of .ensures) at (c .before .before .before .before .merge-slots .ensures) in
@@ -29,4 +26,12 @@ returns c =
     (c .before .before .join-entries .ensures)
 
 pub join-halves-spec : {M : Type 1} → statement M
-join-halves-spec = tie.close (tie.spec merging-of-requires merge-slots-requires sub-t10 join-entries-requires (λ c. search needs) returns)
+join-halves-spec =
+    tie.close
+    (tie.spec
+    merging-of-requires
+    merge-slots-requires
+    (λ c. omega (arith, pair-fits (c .before .before .before .before .before .before .before .pre) .deep))
+    join-entries-requires
+    (λ c. search needs)
+    returns)
