@@ -1,17 +1,14 @@
 -- The four cases of a print, in document 02's words; and that the order in which jobs are looked up does not matter.
--- Assumes nothing.
 use Prim.Native.Nat.{ℕ, suc, _-_, _≤_, _<_}
 use mathlib.Core.Path.{_≡_, refl, sym, ap, _∙_}
-use mathlib.Core.Bool.{true, false}
+use mathlib.Core.Bool.{true}
 use mathlib.Core.List.{List, [], _∷_, List·Memᴰ, List·Memᴰ·head, List·Memᴰ·tail, List·Memᴰ·not-nil, List·Memᴰ·cases-cons, List·Memᴰ·eq-of-singleton}
 use mathlib.Core.Option.{Option, none, some, Option·some-injective}
 use mathlib.Core.Logic.{_⊎_, inl, inr, ⊎-elim}
 use native.Mathlib.Omega.{arith}
-use borrow.Author.Tests.{leb-true, leb-false}
-use lib.Dec.{leb}
 use lib.ListN.{length}
 use Rattle.stores.proofs.Lists.{mem-each, each-mem, some-none}
-use Rattle.stores.proofs.Tests.{cases}
+use Rattle.stores.proofs.Tests.{by-test, by-at-most}
 use Rattle.replies.specs.declared.Answer.{Answer}
 use Rattle.replies.specs.declared.Reply.the-variants.{Value}
 use Rattle.replies.specs.Replies.{Said, done, listed, absent, refused, saidBy}
@@ -167,22 +164,18 @@ any-refusal a year room n valid r = print-refused a year room n valid (refused-n
 
 pub print-cases : PrintCases
 print-cases a year room =
-    ⊎-elim
-    (λ (y : validYear year ≡ true). looked-at y (refusedIn (yearLookups a year allNumbers)) refl)
-    (λ (y : validYear year ≡ false). bad-year y (print-bad-year a year room y))
-    (cases (validYear year))
+    by-test (validYear year)
+    (λ y. looked-at y (refusedIn (yearLookups a year allNumbers)) refl)
+    (λ y. bad-year y (print-bad-year a year room y))
   where
     looked-at : validYear year ≡ true → (o : Option ℕ) → refusedIn (yearLookups a year allNumbers) ≡ o → PrintSays a year room (printYear a year room)
     looked-at y (some n) e =
         let r = number-refused a year y n e in
         passed-on n y r (one-or-three a year y n r) (print-refused a year room n y e)
     looked-at y none e =
-        ⊎-elim
-        (λ (t : leb (bytesOf (yearLookups a year allNumbers)) room ≡ true).
-        printed _ y (none-refuses a year y e) (jobs-of-year a year) (leb-true _ _ t) (print-fits a year room y e (leb-true _ _ t)))
-        (λ (t : leb (bytesOf (yearLookups a year allNumbers)) room ≡ false).
-        too-long _ y (none-refuses a year y e) (jobs-of-year a year) (leb-false _ _ t) (print-short a year room y e (leb-false _ _ t)))
-        (cases (leb (bytesOf (yearLookups a year allNumbers)) room))
+        by-at-most (bytesOf (yearLookups a year allNumbers)) room
+        (λ t. printed _ y (none-refuses a year y e) (jobs-of-year a year) t (print-fits a year room y e t))
+        (λ t. too-long _ y (none-refuses a year y e) (jobs-of-year a year) t (print-short a year room y e t))
 
 -- ---- A done print
 

@@ -1,5 +1,4 @@
 -- One lookup, by the reply of the index's get: its line, the bytes of that, and its refusal.
--- Assumes nothing.
 use Prim.Native.Nat.{ℕ, suc, _*_, _≤_}
 use mathlib.Core.Path.{_≡_, refl, sym, ap, _∙_}
 use mathlib.Core.List.{List, [], _∷_, append-nil}

@@ -1,5 +1,4 @@
 -- A set that refuses with 5 or 6 leaves the probe window of the job's key full, in a segment that can't be split.
--- Assumes nothing.
 use mathlib.Core.Path.{_≡_, refl}
 use mathlib.Core.List.{[]}
 use mathlib.Core.Option.{Option, none, some}

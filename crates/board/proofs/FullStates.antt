@@ -1,6 +1,5 @@
 -- Sets that are refused for want of space, and the statement of specs/Full.antt at these. antt computes both. The statement is taken as a
 -- hypothesis: this file imports no proof of it. The figures were first worked out by a separate script from the documents.
--- Assumes nothing.
 use Prim.Native.Nat.{ℕ, _+_, _*_, _<_}
 use native.Mathlib.Omega.{arith}
 use mathlib.Core.Path.{_≡_, refl, sym}

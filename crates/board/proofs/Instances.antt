@@ -1,6 +1,5 @@
 -- The statements of `specs/Claims` at small cases: each is taken as a hypothesis, and antt computes what it asks for. This file imports no proof of
 -- a statement: one that holds of nothing, or says nothing, is refused here. Samples that `JobsOfYear` must rule out stand beside them.
--- Assumes nothing.
 use Prim.Native.Nat.{ℕ, zero, suc, _+_, _*_, _<_}
 use mathlib.Core.Path.{_≡_, refl, sym, _∙_}
 use mathlib.Core.Bool.{Bool, true, false, false≢true}

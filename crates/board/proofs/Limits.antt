@@ -1,6 +1,5 @@
 -- The board's calls, within the index's limits: range, locality, the bound on stores, refusals that change nothing, and how much one
 -- number can change.
--- Assumes nothing.
 use Prim.Native.Nat.{ℕ, _≤_}
 use mathlib.Core.Path.{_≡_, refl}
 use mathlib.Core.List.{List, [], _∷_}

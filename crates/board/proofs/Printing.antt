@@ -1,5 +1,4 @@
 -- A print, case by case: from what the two passes have counted and written, and as document 02 says it.
--- Assumes nothing.
 use Prim.Native.Nat.{ℕ, _≤_, _<_}
 use mathlib.Core.Path.{_≡_, refl, ap, _∙_}
 use mathlib.Core.Bool.{true, false}

@@ -1,6 +1,5 @@
 -- The board on small stores: calls on single jobs, prints and what reads back. antt computes each row from the definitions. A print
 -- looks up the numbers 0, 9, 10 and 4095 of each month, and where a row says so others.
--- Assumes nothing.
 use Prim.Native.Nat.{ℕ, suc, _+_}
 use mathlib.Core.Path.{_≡_, refl, ap, ap₂}
 use mathlib.Core.Bool.{Bool, true, false, false≢true, _&&_}

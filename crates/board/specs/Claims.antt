@@ -1,5 +1,4 @@
 -- Document 02, wish 2: what is shown of every print, in the document's words.
--- Assumes nothing.
 use Prim.Native.Nat.{ℕ, _+_, _*_, _^_, _≤_, _<_}
 use mathlib.Core.Path.{_≡_}
 use mathlib.Core.Bool.{true, false}

@@ -1,6 +1,5 @@
 -- The bureau's letter, demand 2, over the month board: a set is refused for want of space only where the window is full and the segment
 -- can't be split.
--- Assumes nothing.
 use Prim.Native.Nat.{ℕ}
 use mathlib.Core.List.{List}
 use Rattle.index_laws.specs.Full.{ForWantOfSpace}

@@ -1,5 +1,4 @@
 -- Document 02, wish 2: a job, its key, and the calls that set, read and remove one.
--- Assumes nothing.
 use Prim.Native.Nat.{ℕ, _+_, _*_}
 use mathlib.Core.Path.{_≡_}
 use mathlib.Core.Bool.{Bool, _&&_}

@@ -1,5 +1,4 @@
 -- What the two passes of a print promise: the first counts the lines' bytes, the second writes the lines.
--- Assumes nothing.
 use Prim.Native.Nat.{ℕ, _+_, _≤_}
 use mathlib.Core.Path.{_≡_}
 use mathlib.Core.List.{List, [], _∷_}

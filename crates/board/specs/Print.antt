@@ -1,5 +1,4 @@
 -- Document 02, wish 2: the lines of a printed year.
--- Assumes nothing.
 use Prim.Native.Nat.{ℕ, suc, _-_}
 use mathlib.Core.List.{List, [], _∷_, _++_}
 use mathlib.Core.Option.{Option, none, some}

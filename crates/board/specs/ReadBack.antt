@@ -1,5 +1,4 @@
 -- Document 02, wish 2: 'in a form that with the year reads back to the same jobs'. The reader of printed lines.
--- Assumes nothing.
 use Prim.Native.Nat.{ℕ, suc}
 use mathlib.Core.List.{List, [], _∷_}
 use mathlib.Core.Option.{Option, none, some}

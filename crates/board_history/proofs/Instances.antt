@@ -1,6 +1,5 @@
 -- The statements of `specs/` at small cases: each is taken as a hypothesis, and antt computes what it asks for. This file imports no proof of a
 -- statement: one that holds of nothing, or says nothing, is refused here.
--- Assumes nothing.
 use Prim.Native.Nat.{ℕ}
 use mathlib.Core.Path.{_≡_, refl}
 use mathlib.Core.Bool.{true}

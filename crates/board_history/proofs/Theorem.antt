@@ -1,6 +1,5 @@
 -- The history rule for the month board, and its lookups and prints before mending. A call that passes the board's tests is the index's
 -- call on the job's key, and keeps the index's invariant; one that does not changes nothing.
--- Assumes nothing.
 use mathlib.Core.Path.{_≡_, refl, sym, _∙_}
 use mathlib.Core.Bool.{Bool, true, false}
 use mathlib.Core.List.{List, [], _∷_}

@@ -1,5 +1,4 @@
 -- The history rule for the month board: runs of its calls, between which the index's own calls format and mend its array.
--- Assumes nothing.
 use Prim.Native.Nat.{ℕ}
 use mathlib.Core.Path.{_≡_}
 use mathlib.Core.Bool.{true}

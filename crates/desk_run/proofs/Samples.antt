@@ -1,6 +1,5 @@
 -- Document 01's example of the desk program: its eight lines on 4,160 words, all 0, with a list array of 512 words. antt computes
 -- what they write, byte for byte, from the definitions; and states in which the desk's own numbers are seen.
--- Assumes nothing.
 use Prim.Native.Nat.{ℕ, suc, _+_, _*_}
 use mathlib.Core.Path.{_≡_, refl}
 use mathlib.Core.List.{List, [], _∷_, _++_}

@@ -1,5 +1,4 @@
 -- Document 01, 'The desk program': what a script writes, and the index array that it leaves.
--- Assumes nothing.
 use Prim.Native.Nat.{ℕ}
 use mathlib.Core.List.{List, [], _∷_, _++_}
 use mathlib.Core.Option.{Option, none, some}

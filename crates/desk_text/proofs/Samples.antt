@@ -1,5 +1,4 @@
 -- Calls and answers as text: a table that antt computes from the definitions.
--- Assumes nothing.
 use Prim.Native.Nat.{ℕ}
 use mathlib.Core.Path.{_≡_, refl}
 use mathlib.Core.List.{List, [], _∷_}

@@ -1,5 +1,4 @@
 -- The fields of an answer's line: how long they are, and what they are for each reply.
--- Assumes nothing.
 use Prim.Native.Nat.{ℕ, _≤_}
 use mathlib.Core.Path.{_≡_, refl}
 use mathlib.Core.List.{[], _∷_, _++_, append-nil}

@@ -1,5 +1,4 @@
 -- Document 01, 'The desk program': the lines that are calls.
--- Assumes nothing.
 use Prim.Native.Nat.{ℕ, _^_}
 use mathlib.Core.List.{List, [], _∷_}
 use mathlib.Core.Option.{Option, none, some}

@@ -1,5 +1,4 @@
 -- Document 01, 'The desk program': the lines of output.
--- Assumes nothing.
 use Prim.Native.Nat.{ℕ}
 use mathlib.Core.List.{List, [], _∷_, _++_}
 use Rattle.replies.specs.Replies.{Said, done, listed, absent, refused}

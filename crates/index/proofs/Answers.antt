@@ -1,5 +1,4 @@
 -- From the code's answer to document 01's outcome: with stores under an allowance, and with none.
--- Assumes nothing.
 use mathlib.Core.Path.{_≡_, _∙_}
 use mathlib.Core.List.{List}
 use mathlib.Core.Option.{Option, some}

@@ -1,5 +1,4 @@
 -- Each call's outcome, case by case, from what the code read, stored and answered.
--- Assumes nothing.
 use mathlib.Core.Path.{_≡_, refl}
 use mathlib.Core.Bool.{true, false}
 use mathlib.Core.List.{List, [], _∷_}

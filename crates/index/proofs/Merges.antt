@@ -1,5 +1,4 @@
 -- The outcome of a merge, case by case, from what the code read, stored and answered.
--- Assumes nothing.
 use mathlib.Core.Path.{_≡_, refl, _∙_}
 use mathlib.Core.List.{List, []}
 use mathlib.Core.Option.{none, some}

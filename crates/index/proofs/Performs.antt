@@ -1,5 +1,4 @@
 -- From a call's own promise to that of the performed call.
--- Assumes nothing.
 use mathlib.Core.Path.{_≡_, refl, sym}
 use mathlib.Core.Bool.{false}
 use Prim.Native.Nat.{ℕ}

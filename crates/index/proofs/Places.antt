@@ -1,5 +1,4 @@
 -- The tests in front of the calls with a key, from what was read of the array.
--- Assumes nothing.
 use mathlib.Core.Path.{_≡_, sym, _∙_}
 use mathlib.Core.Bool.{true, false}
 use mathlib.Core.List.{List, [], _∷_}

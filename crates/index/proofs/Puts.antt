@@ -1,5 +1,4 @@
 -- The stores of a put at a slot, the cases of a put from what the code read, and a put behind a split.
--- Assumes nothing.
 use mathlib.Core.Path.{_≡_, refl, sym, ap, _∙_}
 use mathlib.Core.List.{List, [], _∷_}
 use mathlib.Core.Option.{some}

@@ -1,5 +1,4 @@
 -- The plans of a put at a slot of its key's segment.
--- Assumes nothing.
 use Prim.Native.Nat.{ℕ}
 use mathlib.Core.List.{[], _∷_}
 use Rattle.stores.specs.Store.{store}

@@ -1,5 +1,4 @@
 -- What the verdict of a scan tells its caller.
--- Assumes nothing.
 use mathlib.Core.Path.{_≡_, refl}
 use mathlib.Core.Bool.{Bool, true, false}
 use mathlib.Core.List.{List}

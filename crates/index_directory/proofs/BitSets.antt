@@ -1,18 +1,16 @@
 -- Laws of the sets of numbers: one number more, the smallest that is missing, and the empty set.
--- Assumes nothing.
 use mathlib.Core.Path.{_≡_, ap}
-use mathlib.Core.Bool.{true, false}
+use mathlib.Core.Bool.{true}
 use mathlib.Core.List.{List}
-use mathlib.Core.Logic.{⊎-elim}
 use Prim.Native.Nat.{ℕ, _+_, _-_, _*_, _/_, _%_, _^_, _≤_, _<_}
 use native.Mathlib.Omega.{arith}
-use borrow.Author.Tests.{ltb-true, ltb-false, eqb-true, eqb-false, eq-eqb}
-use lib.Dec.{ltb, eqb}
+use borrow.Author.Tests.{eqb-true, eqb-false, eq-eqb}
+use lib.Dec.{eqb}
 use lib.Count.{trailingZeros}
 use lib.ListN.{length, set, replicate, getD-replicate, length-replicate, List·getD-eq-default}
 use Rattle.stores.specs.Store.{word}
 use Rattle.stores.proofs.Stores.{word-set-same, word-set-other}
-use Rattle.stores.proofs.Tests.{cases}
+use Rattle.stores.proofs.Tests.{by-test, by-equal, by-less}
 use Rattle.index_directory.specs.BitSets.{BitSet, holds, Empty, Inserted, SmallestMissing}
 use Rattle.index_directory.proofs.Bits.{bit, zero-bit, with-bit, with-here, with-elsewhere, full-bit, LowestZero, lowest-zero}
 
@@ -45,14 +43,9 @@ module _ (a : List ℕ) (number : ℕ) (l : BitSet a) (h : number < 4096) where
 
   pub inserted : Inserted number a with-number
   inserted n =
-      ⊎-elim
-      (λ (t : eqb number n ≡ true). rw (t, ← eqb-true number n t) holds-number)
-      (λ (t : eqb number n ≡ false).
-      rw t (⊎-elim
-      (λ (s : eqb (n / 64) (number / 64) ≡ true). same-word n (eqb-false number n t) (eqb-true _ _ s))
-      (λ (s : eqb (n / 64) (number / 64) ≡ false). other-word n (eqb-false _ _ s))
-      (cases (eqb (n / 64) (number / 64)))))
-      (cases (eqb number n))
+      by-test (eqb number n)
+      (λ t. rw (t, ← eqb-true number n t) holds-number)
+      (λ t. rw t (by-equal (n / 64) (number / 64) (λ s. same-word n (eqb-false number n t) s) (λ s. other-word n s)))
 
 -- ---- The smallest that is missing
 
@@ -69,14 +62,12 @@ module _ (a : List ℕ) where
     held : (n : ℕ) → n < 64 * i + t → holds a n ≡ true
     unfolding holds
     held n k =
-        ⊎-elim
-        (λ (s : ltb n (64 * i) ≡ true). b n (ltb-true _ _ s))
-        (λ (s : ltb n (64 * i) ≡ false).
-        let l : 64 * i ≤ n = ltb-false _ _ s in
+        by-less n (64 * i)
+        (λ s. b n s)
+        (λ l.
         let q : n / 64 ≡ i = omega arith in
         let r : n % 64 < t = omega arith in
         rw q (eq-eqb _ 1 (ones (n % 64) r)))
-        (cases (ltb n (64 * i)))
 
   pub full-word : (i : ℕ) → FullBelow i → word a i ≡ 2 ^ 64 - 1 → FullBelow (i + 1)
   full-word i b e n h = held i 64 b (omega arith) (λ k l. rw e (full-bit 64 k l)) n (omega arith)
@@ -108,7 +99,6 @@ empty-set n m = rw (zero-word (m / 64), zero-bit (m % 64))
   where
     zero-word : (i : ℕ) → word (replicate n 0) i ≡ 0
     zero-word i =
-        ⊎-elim
-        (λ (t : ltb i n ≡ true). getD-replicate n i 0 0 (ltb-true _ _ t))
-        (λ (t : ltb i n ≡ false). List·getD-eq-default (replicate n 0) 0 {n = i} (rw (length-replicate {A = ℕ} n 0) (ltb-false _ _ t)))
-        (cases (ltb i n))
+        by-less i n
+        (λ t. getD-replicate n i 0 0 t)
+        (λ t. List·getD-eq-default (replicate n 0) 0 {n = i} (rw (length-replicate {A = ℕ} n 0) t))

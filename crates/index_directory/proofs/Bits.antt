@@ -1,18 +1,13 @@
 -- Laws of the bits of a word: one bit more, a full word, and the lowest bit that is 0.
--- Assumes nothing.
 use mathlib.Core.Path.{_≡_, refl, sym, ap, _∙_}
-use mathlib.Core.Bool.{true, false}
-use mathlib.Core.Logic.{⊎-elim}
 use Prim.Native.Nat.{ℕ, zero, suc, _+_, _-_, _*_, _/_, _%_, _^_, _≤_, _<_, max, suc-le-suc}
 use native.Mathlib.Nat.{le-of-suc-le-suc, mod-lt, zero-lt-suc, max-le, max-zero, max-eq-right, div-one, div-eq-of-lt, div-div-eq-div-mul, pow-succ'}
 use native.Mathlib.Omega.{arith}
-use borrow.Author.Tests.{ltb-true, ltb-false}
-use lib.Dec.{ltb}
 use lib.Arith.{digits-mod}
 use lib.Pow.{pow-pos, pow-lt, pow-add, shl-shr, shl-exact, ones-split, high, ones-lt}
 use lib.Bits.{bitOr, or-step, or-shr, shifted-even}
 use lib.Count.{trailingZeros, under}
-use Rattle.stores.proofs.Tests.{cases}
+use Rattle.stores.proofs.Tests.{by-less}
 
 -- ---- One bit more
 
@@ -41,17 +36,15 @@ only-here j = ap (λ (n : ℕ). n % 2) (shl-shr 1 j)
 
 only-elsewhere : (j k : ℕ) → (j ≡ k → ⊥) → bit (1 * 2 ^ j) k ≡ 0
 only-elsewhere j k h =
-    ⊎-elim
-    (λ (t : ltb j k ≡ true).
-    let small : 1 * 2 ^ j < 2 ^ k = omega (arith, pow-lt {i = j} {j = k} (ltb-true j k t)) in
+    by-less j k
+    (λ t.
+    let small : 1 * 2 ^ j < 2 ^ k = omega (arith, pow-lt {i = j} {j = k} t) in
     ap (λ (n : ℕ). n % 2) (div-eq-of-lt small))
-    (λ (t : ltb j k ≡ false).
-    let above : k ≤ j = ltb-false j k t in
+    (λ above.
     let apart : suc (j - suc k) + k ≡ j = omega (arith, h) in
     let parts : 1 * 2 ^ j ≡ 1 * 2 ^ suc (j - suc k) * 2 ^ k =
     ap (λ (n : ℕ). 1 * 2 ^ n) (sym apart) ∙ ap (λ (n : ℕ). 1 * n) (pow-add 2 (suc (j - suc k)) k) ∙ omega arith in
     ap (λ (n : ℕ). n / 2 ^ k % 2) parts ∙ ap (λ (n : ℕ). n % 2) (shl-shr (1 * 2 ^ suc (j - suc k)) k) ∙ shifted-even 1 (j - suc k))
-    (cases (ltb j k))
 
 -- The word w with bit j, as the code makes it.
 abbrev pub with-bit : (w j : ℕ) → ℕ

@@ -1,17 +1,15 @@
 -- A pass over the directory, index by index: the block that it is in, and the leader of each index.
--- Assumes nothing.
 use mathlib.Core.Path.{_≡_, refl, sym, ap, _∙_}
 use mathlib.Core.Bool.{Bool, true, false, _&&_, true≢false}
 use mathlib.Core.List.{List}
 use mathlib.Core.Option.{none, some}
-use mathlib.Core.Logic.{⊎-elim}
 use Prim.Native.Nat.{ℕ, _+_, _-_, _%_, _^_, _≤_, _<_}
 use native.Mathlib.Numerals.{add-one}
 use native.Mathlib.Omega.{arith}
 use borrow.Author.Tests.{ltb-true, ltb-false, eq-eqb}
 use lib.Dec.{ltb, eqb}
 use Rattle.stores.specs.Lists.{pick, allBelow}
-use Rattle.stores.proofs.Tests.{cases, and-true}
+use Rattle.stores.proofs.Tests.{by-test, and-true}
 use Rattle.replies.specs.declared.Refusal.the-variants.{Broken as BrokenRefusal, Unmended as UnmendedRefusal}
 use Rattle.index_rules.specs.Layout.{depth, segments, entryAt, localDepth}
 use Rattle.index_rules.specs.Keys.{width}
@@ -118,57 +116,52 @@ module _ (a : List ℕ) (g S i : ℕ) (b : LedBlock) (p : Passing a g S i b) whe
   pub block-found : (b .end ≤ i → validLeader g S i (entryAt a g i) ≡ true)
       → Found a g S i (pick (ltb i (b .end)) b (blockLedBy g i (entryAt a g i)))
   block-found v =
-      ⊎-elim
-      (λ (t : ltb i (b .end) ≡ true). rw t (same-block (ltb-true i (b .end) t)))
-      (λ (t : ltb i (b .end) ≡ false). let h : b .end ≤ i = ltb-false i (b .end) t in rw t (new-block h (v h)))
-      (cases (ltb i (b .end)))
+      by-test (ltb i (b .end))
+      (λ t. rw t (same-block (ltb-true i (b .end) t)))
+      (λ t. let h : b .end ≤ i = ltb-false i (b .end) t in rw t (new-block h (v h)))
 
   -- A step of the scan goes on in the block of index i. It stops only where that index has a leader that is not valid.
   pub step-in : (agree : Bool) (n : LedBlock) (still : Bool) → In n still ≡ scanAt g S i (entryAt a g i) b agree
       → Found a g S i n × (still ≡ agree && eqb (entryAt a g i) (n .leading))
   unfolding scanAt
   step-in agree n still e =
-      ⊎-elim
-      (λ (t : ltb i (b .end) ≡ true).
+      by-test (ltb i (b .end))
+      (λ t.
       let q : In n still ≡ In b (pick (eqb (entryAt a g i) (b .leading)) agree false) = rw t at e in
       let o : b ≡ n = cc in
       let u : still ≡ pick (eqb (entryAt a g i) (b .leading)) agree false = cc in
       (rw o at (same-block (ltb-true i (b .end) t)), u ∙ pick-and (eqb (entryAt a g i) (b .leading)) agree ∙ rw o))
-      (λ (t : ltb i (b .end) ≡ false).
-      ⊎-elim
-      (λ (v : validLeader g S i (entryAt a g i) ≡ true).
+      (λ t.
+      by-test (validLeader g S i (entryAt a g i))
+      (λ v.
       let q : In n still ≡ In (blockLedBy g i (entryAt a g i)) agree = rw (t, v) at e in
       let o : blockLedBy g i (entryAt a g i) ≡ n = cc in
       let l : n .leading ≡ entryAt a g i = ap (λ (x : LedBlock). x .leading) (sym o) in
       let u : still ≡ agree = cc in
       (rw o at (new-block (ltb-false i (b .end) t) v), rw (l, eq-eqb (entryAt a g i) (entryAt a g i) refl) (u ∙ sym (and-unit agree))))
-      (λ (v : validLeader g S i (entryAt a g i) ≡ false).
+      (λ v.
       let q : In n still ≡ Stop Broken = rw (t, v) at e in
       let z : _≡_ {A = ℕ} 0 1 = cc in
-      absurd (omega arith))
-      (cases (validLeader g S i (entryAt a g i))))
-      (cases (ltb i (b .end)))
+      absurd (omega arith)))
 
   pub step-stop : (agree : Bool) (r : Verdict) → Stop r ≡ scanAt g S i (entryAt a g i) b agree
       → (r ≡ Broken) × (validLeader g S (leader a g i) (leadingEntry a g i) ≡ false)
   unfolding scanAt
   step-stop agree r e =
-      ⊎-elim
-      (λ (t : ltb i (b .end) ≡ true).
+      by-test (ltb i (b .end))
+      (λ t.
       let q : Stop r ≡ In b (pick (eqb (entryAt a g i) (b .leading)) agree false) = rw t at e in
       let z : _≡_ {A = ℕ} 0 1 = cc in
       absurd (omega arith))
-      (λ (t : ltb i (b .end) ≡ false).
-      ⊎-elim
-      (λ (v : validLeader g S i (entryAt a g i) ≡ true).
+      (λ t.
+      by-test (validLeader g S i (entryAt a g i))
+      (λ v.
       let q : Stop r ≡ In (blockLedBy g i (entryAt a g i)) agree = rw (t, v) at e in
       let z : _≡_ {A = ℕ} 0 1 = cc in
       absurd (omega arith))
-      (λ (v : validLeader g S i (entryAt a g i) ≡ false).
+      (λ v.
       let q : Stop r ≡ Stop Broken = rw (t, v) at e in
-      (cc, rw (leads-itself (ltb-false i (b .end) t)) v))
-      (cases (validLeader g S i (entryAt a g i))))
-      (cases (ltb i (b .end)))
+      (cc, rw (leads-itself (ltb-false i (b .end) t)) v)))
 
 -- ---- The scan's verdict
 
@@ -205,10 +198,9 @@ module _ (a : List ℕ) where
       let p = step-stop a (depth a) (segments a) i b (s .passing) agree r (sym q ∙ e) in
       rw (p .0)
       (verdict-of-broken
-      (⊎-elim
-      (λ (t : leadersValid a (depth a) (segments a) ≡ true). absurd (true≢false (sym (valid-at a (depth a) (segments a) i t h) ∙ p .1)))
-      (λ t. t)
-      (cases (leadersValid a (depth a) (segments a)))))
+      (by-test (leadersValid a (depth a) (segments a))
+      (λ t. absurd (true≢false (sym (valid-at a (depth a) (segments a) i t h) ∙ p .1)))
+      (λ t. t)))
 
   module _ (i : ℕ) (b : LedBlock) (agree : Bool) (end : i ≡ 2 ^ depth a) (s : Scanned a (depth a) (segments a) i b agree) where
     pub all-valid : leadersValid a (depth a) (segments a) ≡ true

@@ -1,9 +1,7 @@
 -- The buddy of a key's block by the code's numbers, and the entries of a joined block.
--- Assumes nothing.
 use mathlib.Core.Path.{_≡_, refl, sym, ap, _∙_}
 use mathlib.Core.Bool.{true, false}
 use mathlib.Core.List.{List, [], _∷_}
-use mathlib.Core.Logic.{⊎-elim}
 use Prim.Native.Nat.{ℕ, suc, _+_, _-_, _^_, _≤_, _<_}
 use native.Mathlib.Numerals.{add-one}
 use native.Mathlib.Omega.{arith}
@@ -14,7 +12,7 @@ use lib.Pow.{pow-mono}
 use Rattle.stores.specs.Lists.{each}
 use Rattle.stores.specs.Store.{word, store}
 use Rattle.stores.specs.Executed.{Executed}
-use Rattle.stores.proofs.Tests.{cases}
+use Rattle.stores.proofs.Tests.{by-test}
 use Rattle.stores.proofs.Lists.{each-same}
 use Rattle.index_rules.specs.Layout.{depth, entryAddress, entryAt, entry, segmentOf, localDepth}
 use Rattle.index_rules.specs.Keys.{firstBits, index, width, blockStart}
@@ -148,10 +146,9 @@ module _ {p : Place} {a : List ℕ} (k : KeyPlace p a) where
           pub same-depth : localDepth (word a (count + x)) ≡ p .«local_depth»
               → PairAt (pairOf s i (p .segment) (segmentOf (word a (count + x)))) p a
           same-depth t =
-              ⊎-elim
-              (λ (r : leb (s .right) i ≡ true). rw r (pair-right t (on-right b (leb-true (s .right) i r))))
-              (λ (r : leb (s .right) i ≡ false). rw r (pair-left t (on-left b (λ h. omega (arith, leb-false (s .right) i r)))))
-              (cases (leb (s .right) i))
+              by-test (leb (s .right) i)
+              (λ r. rw r (pair-right t (on-right b (leb-true (s .right) i r))))
+              (λ r. rw r (pair-left t (on-left b (λ h. omega (arith, leb-false (s .right) i r)))))
 
 -- ---- The entries of a joined block
 

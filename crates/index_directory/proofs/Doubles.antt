@@ -1,5 +1,4 @@
 -- The turns of a doubling. What is read, an entry of the present depth, is none of the words that are written.
--- Assumes nothing.
 use mathlib.Core.Path.{_≡_, ap, _∙_}
 use mathlib.Core.List.{List, [], _∷_}
 use Prim.Native.Nat.{ℕ, suc, _+_, _*_, _/_, _^_, _<_}

@@ -1,5 +1,4 @@
 -- The turns of a mend. Its stores so far lie before the entry that is read.
--- Assumes nothing.
 use mathlib.Core.Path.{_≡_, sym, _∙_}
 use mathlib.Core.Bool.{Bool, true, false}
 use mathlib.Core.List.{List, [], _∷_}

@@ -1,5 +1,4 @@
 -- The definitions of `specs/` on small cases, which antt computes.
--- Assumes nothing.
 use Prim.Native.Nat.{ℕ}
 use lib.Dec.{lit<, lit≤}
 use mathlib.Core.Path.{_≡_, refl, sym}

@@ -1,9 +1,7 @@
 -- The search for a free segment: what is noted entry by entry, and the answer from the set.
--- Assumes nothing.
 use mathlib.Core.Path.{_≡_, refl, sym, ap, _∙_}
 use mathlib.Core.Bool.{Bool, true, false, not, _&&_, _||_}
 use mathlib.Core.List.{List}
-use mathlib.Core.Logic.{⊎-elim}
 use mathlib.Core.Option.{none, some}
 use Prim.Native.Nat.{ℕ, _+_, _^_, _≤_, _<_}
 use native.Mathlib.Numerals.{add-one}
@@ -12,7 +10,7 @@ use borrow.Author.Tests.{lt-ltb, le-ltb, ltb-true, eqb-true, ne-eqb}
 use lib.Dec.{eqb, ltb}
 use Rattle.stores.specs.Lists.{anyBelow}
 use Rattle.stores.proofs.Numbers.{first-same-below, first-nowhere, first-at}
-use Rattle.stores.proofs.Tests.{cases}
+use Rattle.stores.proofs.Tests.{by-test}
 use Rattle.index_rules.specs.Layout.{depth, segments, entryAt, segmentOf}
 use Rattle.index_rules.specs.Slots.{named, freeSegment}
 use Rattle.index_directory.specs.BitSets.{holds, Empty, Inserted, SmallestMissing}
@@ -44,20 +42,18 @@ module _ (e S n : ℕ) (named-by : n ≡ segmentOf e) where
   pub noted-below : (before after : List ℕ) → n < S → Inserted n before after → NotedEntry e S before after
   noted-below before after h i s =
       let same : eqb n s ≡ (ltb s S && eqb (segmentOf e) s) =
-      ⊎-elim
-      (λ (t : eqb n s ≡ true). let l : s < S = rw (← eqb-true n s t) h in rw (← named-by, t, lt-ltb s S l))
-      (λ (t : eqb n s ≡ false). rw (← named-by, t) (sym (and-none (ltb s S))))
-      (cases (eqb n s)) in
+      by-test (eqb n s)
+      (λ t. let l : s < S = rw (← eqb-true n s t) h in rw (← named-by, t, lt-ltb s S l))
+      (λ t. rw (← named-by, t) (sym (and-none (ltb s S)))) in
       i s ∙ ap (λ (t : Bool). t || holds before s) same
 
   pub noted-not : (before : List ℕ) → S ≤ n → NotedEntry e S before before
   noted-not before h s =
-      ⊎-elim
-      (λ (t : ltb s S ≡ true).
+      by-test (ltb s S)
+      (λ t.
       let l : s < S = ltb-true s S t in
       rw (t, ← named-by, ne-eqb n s (λ q. omega arith)))
-      (λ (t : ltb s S ≡ false). rw t)
-      (cases (ltb s S))
+      (λ t. rw t)
 
 module _ (a : List ℕ) where
   pub noted-none : (noted : List ℕ) → Empty noted → NotedBelow a noted 0

@@ -1,5 +1,4 @@
 -- A set of numbers as words of 64 bits: which numbers it holds, and what its functions leave and answer.
--- Assumes nothing.
 use Prim.Native.Nat.{ℕ, _/_, _%_, _^_, _<_}
 use mathlib.Core.Path.{_≡_}
 use mathlib.Core.Bool.{Bool, true, false, _||_}

@@ -1,5 +1,4 @@
 -- What the search for the buddy answers, and what the code of a joined block's entries asks and stores.
--- Assumes nothing.
 use Prim.Native.Nat.{ℕ, suc, _+_, _^_, _≤_, _<_}
 use mathlib.Core.Path.{_≡_}
 use mathlib.Core.Bool.{true, false}

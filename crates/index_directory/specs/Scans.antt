@@ -1,5 +1,4 @@
 -- What the scan answers, and where it stands behind each entry.
--- Assumes nothing.
 use Prim.Native.Nat.{ℕ, _+_}
 use mathlib.Core.Path.{_≡_}
 use mathlib.Core.Bool.{Bool, true, false}

@@ -1,5 +1,4 @@
 -- What the functions that store ask of their callers, the stores of one half of an entry update, and those of one turn of a mend.
--- Assumes nothing.
 use Prim.Native.Nat.{ℕ, suc, _+_, _-_, _^_, _≤_, _<_}
 use mathlib.Core.List.{List, [], _∷_}
 use lib.ListN.{length}

@@ -1,5 +1,4 @@
 -- One lemma for each call: at a good point of a run the call answers as the map says, and leaves a good point.
--- Assumes nothing.
 use mathlib.Core.Path.{_≡_, refl, sym, ap, _∙_}
 use mathlib.Core.Bool.{Bool, true, false, false≢true}
 use mathlib.Core.List.{List, [], _∷_}
@@ -13,7 +12,7 @@ use lib.Dec.{eqb}
 use lib.ListN.{length}
 use Rattle.stores.specs.Store.{store, apply}
 use Rattle.stores.specs.Plan.{Plan, reply-only}
-use Rattle.stores.proofs.Tests.{cases, or-cases}
+use Rattle.stores.proofs.Tests.{by-test, by-equal, or-cases}
 use Rattle.stores.proofs.Stores.{exec-all, exec-not-made}
 use Rattle.replies.specs.declared.Refusal.{Refusal}
 use Rattle.replies.specs.declared.Refusal.the-variants.{NoKey}
@@ -85,17 +84,16 @@ get-is-map p good key c = found-is-map (good .kept .inv) key (eqb-false key 0 (n
 pub get-kept : (p : Point) → Good p → (key : ℕ) → CallKept p (gets key) (get (p .array) key) (p .array)
 unfolding fed isRecovery claimed
 get-kept p good key =
-    ⊎-elim
-    (λ (z : eqb key 0 ≡ true).
+    by-test (eqb key 0)
+    (λ z.
     let e : key ≡ 0 = eqb-true key 0 z in
     let says : get (p .array) key ≡ refused 2 = rw e (get-of-zero (good .kept .inv)) in
     nothing-changed p (gets key) (get (p .array) key) good refl (rw says) refl
     (λ c. absurd (false≢true (rw z at c))) (rw says))
-    (λ (z : eqb key 0 ≡ false).
+    (λ z.
     let says : get (p .array) key ≡ mapSays (p .map key) = found-is-map (good .kept .inv) key (eqb-false key 0 z) in
     nothing-changed p (gets key) (get (p .array) key) good refl (rw says (map-says-no-refusal (p .map key) 7)) refl
     (λ c. says) (rw says (map-says-no-damage (p .map key))))
-    (cases (eqb key 0))
 
 -- ---- The listings
 
@@ -134,18 +132,15 @@ pub put-called : (p : Point) → Good p → p .needsRecovery ≡ false → (key 
 unfolding fed putTests
 put-called p good calm key value allowance =
     let w = good .whole calm in
-    ⊎-elim
-    (λ (z : eqb key 0 ≡ true).
-    let e : key ≡ 0 = eqb-true key 0 z in
+    by-equal key 0
+    (λ e.
     rw (e, put-refused (p .array) 0 value NoKey (zero-key-tests (w .inv) _))
     (plan-carried-out p (puts 0 value) allowance (reply-only (refuse NoKey)) (refusal-kept (puts 0 value) NoKey refl refl refl w)
     (λ said. Prim.tt) (good .zero-none) (good .zero-none) refl))
-    (λ (z : eqb key 0 ≡ false).
-    let nonzero : key ≡ 0 → ⊥ = eqb-false key 0 z in
+    (λ nonzero.
     plan-carried-out p (puts key value) allowance (put (p .array) key value)
     (put-kept key value nonzero (p .array) (w .inv) (w .recovered))
     (λ said. Prim.tt) (good .zero-none) (zero nonzero (isDone (put (p .array) key value .reply))) refl)
-    (cases (eqb key 0))
   where
     zero : (key ≡ 0 → ⊥) → (b : Bool) → fed (puts key value) b (p .map) 0 ≡ none
     zero nonzero true = zero-after (p .map) (good .zero-none) key (some value) nonzero
@@ -186,16 +181,14 @@ pub remove-called : (p : Point) → Good p → p .needsRecovery ≡ false → (k
 unfolding fed remove removeTests
 remove-called p good calm key allowance =
     let w = good .whole calm in
-    ⊎-elim
-    (λ (z : eqb key 0 ≡ true).
-    rw (eqb-true key 0 z, zero-key-tests (w .inv), tested-some)
+    by-equal key 0
+    (λ z.
+    rw (z, zero-key-tests (w .inv), tested-some)
     (plan-carried-out p (removes 0) allowance (reply-only (refuse NoKey)) (refusal-kept (removes 0) NoKey refl refl refl w)
     (λ said. Prim.tt) (good .zero-none) (good .zero-none) refl))
-    (λ (z : eqb key 0 ≡ false).
-    let nonzero : key ≡ 0 → ⊥ = eqb-false key 0 z in
+    (λ nonzero.
     plan-carried-out p (removes key) allowance (remove (p .array) key) (remove-plan (w .inv) (w .recovered) key nonzero)
     (λ said. Prim.tt) (good .zero-none) (zero nonzero (isDone (remove (p .array) key .reply))) refl)
-    (cases (eqb key 0))
   where
     zero : (key ≡ 0 → ⊥) → (b : Bool) → fed (removes key) b (p .map) 0 ≡ none
     zero nonzero true = zero-after (p .map) (good .zero-none) key none nonzero
@@ -208,15 +201,14 @@ pub merge-called : (p : Point) → Good p → p .needsRecovery ≡ false → (ke
 unfolding fed merge mergeTests
 merge-called p good calm key allowance =
     let w = good .whole calm in
-    ⊎-elim
-    (λ (z : eqb key 0 ≡ true).
-    rw (eqb-true key 0 z, zero-key-tests (w .inv), tested-some)
+    by-equal key 0
+    (λ z.
+    rw (z, zero-key-tests (w .inv), tested-some)
     (plan-carried-out p keeps allowance (reply-only (refuse NoKey)) (refusal-kept keeps NoKey refl refl refl w)
     (λ said. Prim.tt) (good .zero-none) (good .zero-none) refl))
-    (λ (z : eqb key 0 ≡ false).
-    plan-carried-out p keeps allowance (merge (p .array) key) (merge-plan (w .inv) (w .recovered) key (eqb-false key 0 z))
+    (λ z.
+    plan-carried-out p keeps allowance (merge (p .array) key) (merge-plan (w .inv) (w .recovered) key z)
     (λ said. Prim.tt) (good .zero-none) (good .zero-none) refl)
-    (cases (eqb key 0))
 
 -- ---- Mend
 

@@ -1,18 +1,15 @@
 -- Changes of one segment, for an index and its block's bits: a new value at the hit; value, then key, into a slot that is not
 -- live; the key cleared at the hit. The store needs no recovery before, nor after.
--- Assumes nothing.
 use mathlib.Core.Path.{_≡_, refl, sym, _∙_}
-use mathlib.Core.Bool.{true, false, true≢false}
+use mathlib.Core.Bool.{false, true≢false}
 use mathlib.Core.List.{List, List·Memᴰ}
 use mathlib.Core.Option.{Option, none, some}
-use mathlib.Core.Logic.{⊎-elim}
 use Prim.Native.Nat.{ℕ, suc, _^_, _≤_, _<_}
 use native.Mathlib.Omega.{arith}
-use borrow.Author.Tests.{eqb-true, eqb-false, eq-eqb, ne-eqb}
-use lib.Dec.{eqb}
+use borrow.Author.Tests.{eq-eqb, ne-eqb}
 use lib.ListN.{length, set, length-set}
 use lib.Pow.{pow-pos}
-use Rattle.stores.proofs.Tests.{cases}
+use Rattle.stores.proofs.Tests.{by-test, by-equal}
 use Rattle.stores.proofs.Stores.{word-set-same, word-set-other}
 use Rattle.stores.specs.Store.{word}
 use Rattle.index_rules.specs.Layout.{wordsFor, entryAddress, segmentOf, localDepth, keyAddress, valueAddress, keyAt, valueAt}
@@ -94,17 +91,15 @@ module _ {m : Map} {g d S : ℕ} {f : ℕ → ℕ} {a : List ℕ} (inv : Inv m g
       → LiveAt g f i (keyAt (set a (keyAddress (baseAt d f i) j) x) (baseAt d f i) k)
       → List·Memᴰ k (window (keyAt (set a (keyAddress (baseAt d f i) j) x) (baseAt d f i) k))
   windows-after-key j x k l own h t =
-      ⊎-elim
-      (λ (q : eqb k j ≡ true).
-      let e : k ≡ j = eqb-true k j q in
+      by-equal k j
+      (λ e.
       let there : keyAt (set a (keyAddress (baseAt d f i) j) x) (baseAt d f i) k ≡ x =
       rw e (word-set-same a (keyAddress (baseAt d f i) j) x (inside _ (key-in-block j l)))
       in
       rw (there, e) (own (rw there at t)))
-      (λ (q : eqb k j ≡ false).
-      let there = key-after-key a (baseAt d f i) j x k (eqb-false k j q) in
+      (λ q.
+      let there = key-after-key a (baseAt d f i) j x k q in
       rw there (inv .in-window i below k h (rw there at t)))
-      (cases (eqb k j))
 
   -- ---- The changes
 
@@ -116,15 +111,13 @@ module _ {m : Map} {g d S : ℕ} {f : ℕ → ℕ} {a : List ℕ} (inv : Inv m g
       let small : j < 64 = window-lt key j (hit-window a base key j e) in
       store-in-block (updated m key (some v)) (valueAddress base j) v (value-in-block j small) (others-as-before key (some v) t)
       (λ other u.
-      ⊎-elim
-      (λ (q : eqb other key ≡ true).
-      rw (eqb-true other key q, updated-same m key (some v))
+      by-equal other key
+      (λ q.
+      rw (q, updated-same m key (some v))
       (holds-new-value (m key) a base key j v (inside _ (value-in-block j small)) (inv .holds i below key t) e))
-      (λ (q : eqb other key ≡ false).
-      let n = eqb-false other key q in
+      (λ n.
       rw (updated-other m key (some v) other n)
-      (holds-other-value (m other) a base other j v (λ r. n (sym r ∙ hit-key a base key j e)) (inv .holds i below other u)))
-      (cases (eqb other key)))
+      (holds-other-value (m other) a base other j v (λ r. n (sym r ∙ hit-key a base key j e)) (inv .holds i below other u))))
       (windows-after-value j v)
 
   -- A value stored into a slot that is not live is not seen.
@@ -171,10 +164,9 @@ module _ {m : Map} {g d S : ℕ} {f : ℕ → ℕ} {a : List ℕ} (inv : Inv m g
       -- A key that is live now was there before.
       live-before : (j : ℕ) → j < 64 → LiveAt g f i (keyAt b base j) → keyAt b base j ≡ keyAt a base j
       live-before j h t =
-          ⊎-elim
-          (λ (u : live (localDepth (f i)) (bitsAt g f i) (keyAt a base j) ≡ true). stays j h u .0)
-          (λ (u : live (localDepth (f i)) (bitsAt g f i) (keyAt a base j) ≡ false). absurd (true≢false (sym t ∙ unseen j h u)))
-          (cases (live (localDepth (f i)) (bitsAt g f i) (keyAt a base j)))
+          by-test (live (localDepth (f i)) (bitsAt g f i) (keyAt a base j))
+          (λ u. stays j h u .0)
+          (λ u. absurd (true≢false (sym t ∙ unseen j h u)))
 
   -- A live key that the window did not have, stored into a slot that is not live and has the value v.
   pub new-key : (key j v : ℕ) → LiveAt g f i key → List·Memᴰ j (window key) → hit a (baseAt d f i) key ≡ none
@@ -186,16 +178,14 @@ module _ {m : Map} {g d S : ℕ} {f : ℕ → ℕ} {a : List ℕ} (inv : Inv m g
       let small : j < 64 = window-lt key j w in
       store-in-block (updated m key (some v)) (keyAddress base j) key (key-in-block j small) (others-as-before key (some v) t)
       (λ other u.
-      ⊎-elim
-      (λ (q : eqb other key ≡ true).
-      rw (eqb-true other key q, updated-same m key (some v))
+      by-equal other key
+      (λ q.
+      rw (q, updated-same m key (some v))
       (holds-new-key a base key j v (inside _ (key-in-block j small)) w (hit-none a base key e) there))
-      (λ (q : eqb other key ≡ false).
-      let n = eqb-false other key q in
+      (λ n.
       rw (updated-other m key (some v) other n)
       (holds-other-key (m other) a base other j key (inside _ (key-in-block j small)) (unlike-stale other (keyAt a base j) u stale)
-      (λ r. n (sym r)) (inv .holds i below other u)))
-      (cases (eqb other key)))
+      (λ r. n (sym r)) (inv .holds i below other u))))
       (λ k. windows-after-key j key k small (λ u. w))
 
   -- The key word of a live key cleared at the hit.
@@ -206,15 +196,13 @@ module _ {m : Map} {g d S : ℕ} {f : ℕ → ℕ} {a : List ℕ} (inv : Inv m g
       let small : j < 64 = window-lt key j (hit-window a base key j e) in
       store-in-block (updated m key none) (keyAddress base j) 0 (key-in-block j small) (others-as-before key none t)
       (λ other u.
-      ⊎-elim
-      (λ (q : eqb other key ≡ true).
-      rw (eqb-true other key q, updated-same m key none)
+      by-equal other key
+      (λ q.
+      rw (q, updated-same m key none)
       (holds-removed (m key) a base key j (live-nonzero (localDepth (f i)) (bitsAt g f i) key t) (inside _ (key-in-block j small))
       (inv .holds i below key t) e))
-      (λ (q : eqb other key ≡ false).
-      let n = eqb-false other key q in
+      (λ n.
       rw (updated-other m key none other n)
       (holds-other-key (m other) a base other j 0 (inside _ (key-in-block j small)) (λ r. n (sym r ∙ hit-key a base key j e))
-      (λ r. live-nonzero (localDepth (f i)) (bitsAt g f i) other u (sym r)) (inv .holds i below other u)))
-      (cases (eqb other key)))
+      (λ r. live-nonzero (localDepth (f i)) (bitsAt g f i) other u (sym r)) (inv .holds i below other u))))
       (λ k. windows-after-key j 0 k small (λ u. absurd (true≢false (sym u ∙ live-empty (localDepth (f i)) (bitsAt g f i)))))

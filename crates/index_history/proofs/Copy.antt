@@ -1,7 +1,6 @@
 -- The copy step of a split, for an index and its block's bits: the new segment holds what the old one holds for the right half.
--- Assumes nothing.
 use mathlib.Core.Path.{_≡_, sym, _∙_}
-use mathlib.Core.Bool.{true, false}
+use mathlib.Core.Bool.{true}
 use mathlib.Core.List.{List, [], _∷_, List·Memᴰ}
 use mathlib.Core.Logic.{_⊎_, inl, inr, ⊎-elim}
 use Prim.Native.Nat.{ℕ, suc, _+_, _*_, _^_, _<_}
@@ -10,7 +9,7 @@ use lib.ListN.{length}
 use lib.Pow.{pow-pos}
 use Rattle.stores.specs.Lists.{pick}
 use Rattle.stores.specs.Store.{Store, word, store, apply, exec, Every}
-use Rattle.stores.proofs.Tests.{cases}
+use Rattle.stores.proofs.Tests.{by-test}
 use Rattle.stores.proofs.Lists.{every-pick}
 use Rattle.stores.proofs.Stores.{length-exec, word-set-same}
 use Rattle.stores.proofs.Prefixes.{Always, always-whole, exec-elsewhere}
@@ -44,11 +43,9 @@ module _ (a : List ℕ) (from to L bits j : ℕ) (h : j < 64) (b : List ℕ) whe
   unfolding copying copySlot apply
   copied-key inside =
       slot-alone to (copySlot a from to L bits) (slot-stores a from to L bits) j (keyAddress to j) 64 b (key-in-slot to j) h
-      ∙ ⊎-elim
-      (λ (t : moves a from L bits j ≡ true).
-      rw t (record-key to j (keyAt a from j) (valueAt a from j) b inside))
-      (λ (t : moves a from L bits j ≡ false). rw t (word-set-same b (keyAddress to j) 0 inside))
-      (cases (moves a from L bits j))
+      ∙ by-test (moves a from L bits j)
+      (λ t. rw t (record-key to j (keyAt a from j) (valueAt a from j) b inside))
+      (λ t. rw t (word-set-same b (keyAddress to j) 0 inside))
 
   -- The value of a record that moves.
   copied-value : valueAddress to j < length b → moves a from L bits j ≡ true
@@ -74,23 +71,41 @@ pub record Copied (m : Map) (g d S : ℕ) (f : ℕ → ℕ) (i n : ℕ) (c : Lis
 
 module _ {m : Map} {g d S : ℕ} {f : ℕ → ℕ} {a : List ℕ} (inv : Inv m g d S f a) (same : Recovered g f a) (i : ℕ) (below : i < 2 ^ g)
     (n : ℕ) (new : n < S) (unnamed : (j : ℕ) → j < 2 ^ g → segmentOf (f j) ≡ n → ⊥) where
-  -- Step 3 changes only words of the segment n.
-  copies-elsewhere : (t at : ℕ) → (Within d n at → ⊥) → word (exec (copies a g d f i n) t a) at ≡ word a at
-  copies-elsewhere t at =
-      exec-elsewhere (Within d n) (copies a g d f i n) t a at
-      (copying-within a (baseAt d f i) d n (localDepth (f i)) (bitsAt g f i))
+  abbrev L : ℕ
+  L = localDepth (f i)
 
-  copies-segment : (t s : ℕ) → (s ≡ n → ⊥) → SegmentSame d s a (exec (copies a g d f i n) t a)
+  abbrev bits : ℕ
+  bits = bitsAt g f i
+
+  -- Where the old segment begins, and the new one.
+  abbrev old : ℕ
+  old = baseAt d f i
+
+  abbrev fresh : ℕ
+  fresh = segmentAddress d n
+
+  abbrev step : List Store
+  step = copies a g d f i n
+
+  -- The array between the two steps.
+  abbrev between : List ℕ
+  between = apply step a
+
+  -- Step 3 changes only words of the segment n.
+  copies-elsewhere : (t at : ℕ) → (Within d n at → ⊥) → word (exec step t a) at ≡ word a at
+  copies-elsewhere t at = exec-elsewhere (Within d n) step t a at (copying-within a old d n L bits)
+
+  copies-segment : (t s : ℕ) → (s ≡ n → ⊥) → SegmentSame d s a (exec step t a)
   copies-segment t s u at w = copies-elsewhere t at (λ q. u (segments-disjoint d s n at w q))
 
   -- No address of a directory lies in the segment n.
   not-within : (at : ℕ) → at < 2 ^ suc d → Within d n at → ⊥
   not-within at h w = omega (arith, within-inside d S n at new w .behind)
 
-  copies-framed : (t : ℕ) → Framed g d f a (exec (copies a g d f i n) t a)
+  copies-framed : (t : ℕ) → Framed g d f a (exec step t a)
   copies-framed t =
       record {
-        length-same = length-exec (copies a g d f i n) t a;
+        length-same = length-exec step t a;
         word-0-same = copies-elsewhere t 0 (not-within 0 (pow-pos (suc d)));
         entries-same = λ k h.
             copies-elsewhere t (entryAddress g k) (not-within (entryAddress g k) (entry-inside d g k (inv .shape .present) h));
@@ -99,73 +114,54 @@ module _ {m : Map} {g d S : ℕ} {f : ℕ → ℕ} {a : List ℕ} (inv : Inv m g
       }
 
   pub copies-kept : Always (Kept m d S) (copies a g d f i n) a
-  copies-kept t = record { g = g; f = f; inv = inv-framed (exec (copies a g d f i n) t a) (copies-framed t) inv }
+  copies-kept t = record { g = g; f = f; inv = inv-framed (exec step t a) (copies-framed t) inv }
 
-  -- The array between the two steps.
-  copied-framed : Framed g d f a (apply (copies a g d f i n) a)
-  copied-framed = always-whole (Framed g d f a) (copies a g d f i n) a copies-framed
+  copied-framed : Framed g d f a between
+  copied-framed = always-whole (Framed g d f a) step a copies-framed
 
-  key-now : (j : ℕ) → j < 64
-      → keyAt (apply (copies a g d f i n) a) (segmentAddress d n) j
-      ≡ pick (moves a (baseAt d f i) (localDepth (f i)) (bitsAt g f i) j) (keyAt a (baseAt d f i) j) 0
-  key-now j h =
-      copied-key a (baseAt d f i) (segmentAddress d n) (localDepth (f i)) (bitsAt g f i) j h a
-      (omega (arith, key-inside d S n j new h .below, inv .shape .room))
+  key-now : (j : ℕ) → j < 64 → keyAt between fresh j ≡ pick (moves a old L bits j) (keyAt a old j) 0
+  key-now j h = copied-key a old fresh L bits j h a (omega (arith, key-inside d S n j new h .below, inv .shape .room))
 
-  value-now : (j : ℕ) → j < 64 → moves a (baseAt d f i) (localDepth (f i)) (bitsAt g f i) j ≡ true
-      → valueAt (apply (copies a g d f i n) a) (segmentAddress d n) j ≡ valueAt a (baseAt d f i) j
-  value-now j h t =
-      copied-value a (baseAt d f i) (segmentAddress d n) (localDepth (f i)) (bitsAt g f i) j h a
-      (omega (arith, value-inside d S n j new h .below, inv .shape .room)) t
+  value-now : (j : ℕ) → j < 64 → moves a old L bits j ≡ true → valueAt between fresh j ≡ valueAt a old j
+  value-now j h t = copied-value a old fresh L bits j h a (omega (arith, value-inside d S n j new h .below, inv .shape .room)) t
 
   -- The key word of the new segment is the old one, of a key live in the right half, or 0.
   new-key : (j : ℕ) → j < 64
-      → ((keyAt (apply (copies a g d f i n) a) (segmentAddress d n) j ≡ keyAt a (baseAt d f i) j)
-      × (live (suc (localDepth (f i))) (2 * bitsAt g f i + 1) (keyAt a (baseAt d f i) j) ≡ true))
-      ⊎ (keyAt (apply (copies a g d f i n) a) (segmentAddress d n) j ≡ 0)
+      → ((keyAt between fresh j ≡ keyAt a old j) × (live (suc L) (2 * bits + 1) (keyAt a old j) ≡ true)) ⊎ (keyAt between fresh j ≡ 0)
   new-key j h =
-      let moved = moves a (baseAt d f i) (localDepth (f i)) (bitsAt g f i) j in
-      ⊎-elim
-      (λ (t : moved ≡ true).
-      inl (rw t at (key-now j h), sym (moves-live a (baseAt d f i) (localDepth (f i)) (bitsAt g f i) j) ∙ t))
-      (λ (t : moved ≡ false). inr (rw t at (key-now j h)))
-      (cases moved)
+      let moved = moves a old L bits j in
+      by-test moved
+      (λ t. inl (rw t at (key-now j h), sym (moves-live a old L bits j) ∙ t))
+      (λ t. inr (rw t at (key-now j h)))
 
-  copied-holds : (key : ℕ) → live (suc (localDepth (f i))) (2 * bitsAt g f i + 1) key ≡ true
-      → Holds (m key) (apply (copies a g d f i n) a) (segmentAddress d n) key
+  copied-holds : (key : ℕ) → live (suc L) (2 * bits + 1) key ≡ true → Holds (m key) between fresh key
   copied-holds key t =
-      holds-same (m key) a (baseAt d f i) (apply (copies a g d f i n) a) (segmentAddress d n) key back forth
-      (inv .holds i below key (live-whole (localDepth (f i)) (bitsAt g f i) 1 key (omega arith) t))
+      holds-same (m key) a old between fresh key back forth (inv .holds i below key (live-whole L bits 1 key (omega arith) t))
     where
-      back : (j : ℕ) → List·Memᴰ j (window key) → keyAt (apply (copies a g d f i n) a) (segmentAddress d n) j ≡ key
-          → keyAt a (baseAt d f i) j ≡ key
+      back : (j : ℕ) → List·Memᴰ j (window key) → keyAt between fresh j ≡ key → keyAt a old j ≡ key
       back j w q =
           ⊎-elim
           (λ r. sym (r .0) ∙ q)
-          (λ r. absurd (live-nonzero (suc (localDepth (f i))) (2 * bitsAt g f i + 1) key t (sym q ∙ r)))
+          (λ r. absurd (live-nonzero (suc L) (2 * bits + 1) key t (sym q ∙ r)))
           (new-key j (window-lt key j w))
 
-      forth : (j : ℕ) → List·Memᴰ j (window key) → keyAt a (baseAt d f i) j ≡ key
-          → (keyAt (apply (copies a g d f i n) a) (segmentAddress d n) j ≡ key)
-          × (valueAt (apply (copies a g d f i n) a) (segmentAddress d n) j ≡ valueAt a (baseAt d f i) j)
+      forth : (j : ℕ) → List·Memᴰ j (window key) → keyAt a old j ≡ key
+          → (keyAt between fresh j ≡ key) × (valueAt between fresh j ≡ valueAt a old j)
       forth j w q =
-          let moved : moves a (baseAt d f i) (localDepth (f i)) (bitsAt g f i) j ≡ true =
-          moves-live a (baseAt d f i) (localDepth (f i)) (bitsAt g f i) j ∙ rw q t in
+          let moved : moves a old L bits j ≡ true = moves-live a old L bits j ∙ rw q t in
           ((rw moved at (key-now j (window-lt key j w))) ∙ q, value-now j (window-lt key j w) moved)
 
-  copied-in-window : (j : ℕ) → j < 64
-      → live (suc (localDepth (f i))) (2 * bitsAt g f i + 1) (keyAt (apply (copies a g d f i n) a) (segmentAddress d n) j) ≡ true
-      → List·Memᴰ j (window (keyAt (apply (copies a g d f i n) a) (segmentAddress d n) j))
+  copied-in-window : (j : ℕ) → j < 64 → live (suc L) (2 * bits + 1) (keyAt between fresh j) ≡ true → List·Memᴰ j (window (keyAt between fresh j))
   copied-in-window j h t =
       ⊎-elim
-      (λ r. rw (r .0) (inv .in-window i below j h (live-whole (localDepth (f i)) (bitsAt g f i) 1 _ (omega arith) (r .1))))
-      (λ r. absurd (live-nonzero (suc (localDepth (f i))) (2 * bitsAt g f i + 1) _ t r))
+      (λ r. rw (r .0) (inv .in-window i below j h (live-whole L bits 1 _ (omega arith) (r .1))))
+      (λ r. absurd (live-nonzero (suc L) (2 * bits + 1) _ t r))
       (new-key j h)
 
   pub copied : Copied m g d S f i n (apply (copies a g d f i n) a)
   copied =
       record {
-        inv = inv-framed (apply (copies a g d f i n) a) copied-framed inv;
+        inv = inv-framed between copied-framed inv;
         recovered = λ k h. copied-framed .entries-same k h ∙ same k h;
         new-holds = copied-holds;
         new-in-window = copied-in-window;

@@ -1,6 +1,5 @@
 -- What holds of every store that the history rule covers: mending can bring it back, a list and the answers block by block have the map's
 -- records, and a done merge frees a segment.
--- Assumes nothing.
 use mathlib.Core.Path.{_≡_, sym, _∙_}
 use mathlib.Core.List.{List, []}
 use mathlib.Core.Option.{none}

@@ -1,5 +1,4 @@
 -- The doubling of the directory: the map is kept after every number of its stores, and what the whole of it leaves.
--- Assumes nothing.
 use mathlib.Core.Path.{_≡_, sym, ap, _∙_}
 use mathlib.Core.List.{List, [], _∷_, List·Memᴰ}
 use Prim.Native.Nat.{ℕ, suc, _/_, _^_, _≤_, _<_}

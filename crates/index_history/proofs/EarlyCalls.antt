@@ -1,5 +1,4 @@
 -- Calls that wait for the mend, made before it all the same: they are refused with 2 or 4, or there is nothing to mend.
--- Assumes nothing.
 use mathlib.Core.Path.{_≡_, refl, sym, _∙_}
 use mathlib.Core.Bool.{Bool, true, false, false≢true, _||_}
 use mathlib.Core.List.{List, []}
@@ -10,7 +9,7 @@ use native.Mathlib.Omega.{arith}
 use lib.Dec.{eqb}
 use lib.ListN.{length}
 use Rattle.stores.specs.Plan.{Plan, reply-only}
-use Rattle.stores.proofs.Tests.{cases}
+use Rattle.stores.proofs.Tests.{by-test}
 use Rattle.replies.specs.declared.Refusal.{Refusal}
 use Rattle.replies.specs.declared.Refusal.the-variants.{NoKey, Unmended}
 use Rattle.replies.specs.Replies.{Said, refuse, unless, tested, changed, isRefusal}
@@ -52,10 +51,9 @@ module _ {m : Map} {g d S : ℕ} {f : ℕ → ℕ} {a : List ℕ} (inv : Inv m g
   key-waits : (key : ℕ) (later : Option Refusal) → Waits (keyTests a key (directoryTests a later))
   unfolding keyTests unless
   key-waits key later =
-      ⊎-elim
-      (λ (z : eqb key 0 ≡ true). inl (rw (header-valid (shape-valid (inv .shape)), z) refl))
-      (λ (z : eqb key 0 ≡ false). inr (rw (header-valid (shape-valid (inv .shape)), z) (directory-waits later)))
-      (cases (eqb key 0))
+      by-test (eqb key 0)
+      (λ z. inl (rw (header-valid (shape-valid (inv .shape)), z) refl))
+      (λ z. inr (rw (header-valid (shape-valid (inv .shape)), z) (directory-waits later)))
 
   listing-waits : (later : Option Refusal) → Waits (listingTests a later)
   unfolding listingTests unless
@@ -98,10 +96,9 @@ unless-waiting : (a : List ℕ) (t : Option Refusal) (said : Said) → (entriesA
     → saysWait said ≡ false
     → mending a ≡ []
 unless-waiting a t said waits follows other =
-    ⊎-elim
-    (λ (agree : entriesAgree a (depth a) ≡ true). nothing-to-mend a agree)
-    (λ (apart : entriesAgree a (depth a) ≡ false). absurd (false≢true (sym other ∙ waits-said t said (waits apart) follows)))
-    (cases (entriesAgree a (depth a)))
+    by-test (entriesAgree a (depth a))
+    (λ agree. nothing-to-mend a agree)
+    (λ apart. absurd (false≢true (sym other ∙ waits-said t said (waits apart) follows)))
 
 pub early-calls : EarlyCalls
 unfolding effect step mayFollow putTests removeTests remove mergeTests merge listTests list listBlockTests listBlock

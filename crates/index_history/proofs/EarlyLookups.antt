@@ -1,6 +1,5 @@
 -- Lookups before mending: runs of the index that antt computes from the statements alone, in which keys are looked up behind every cut. This file
 -- imports no proof.
--- Assumes nothing.
 use Prim.Native.Nat.{ℕ, _+_, _*_}
 use mathlib.Core.Path.{_≡_, refl}
 use mathlib.Core.Bool.{Bool, true, false, _&&_}

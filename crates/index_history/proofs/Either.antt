@@ -1,9 +1,8 @@
 -- An array that serves a directory f and the same directory halved at index i, with the segment n for the right half: while each entry is
 -- one or the other's, lookups agree with the map, and the invariant holds with f as long as f's blocks begin with f's entries, and with
 -- the halved one where all entries are its. A split goes from f to the halved directory, a merge the other way.
--- Assumes nothing.
 use mathlib.Core.Path.{_≡_}
-use mathlib.Core.Bool.{true, false}
+use mathlib.Core.Bool.{true}
 use mathlib.Core.List.{List, List·Memᴰ}
 use mathlib.Core.Logic.{_⊎_, inl, inr, ⊎-elim}
 use Prim.Native.Nat.{ℕ, suc, _+_, _*_, _^_, _≤_, _<_}
@@ -13,7 +12,7 @@ use lib.Dec.{eqb}
 use lib.ListN.{length}
 use Rattle.stores.specs.Lists.{pick}
 use Rattle.stores.specs.Store.{word}
-use Rattle.stores.proofs.Tests.{cases}
+use Rattle.stores.proofs.Tests.{by-test}
 use Rattle.index_rules.specs.Layout.{entryAt, segmentOf, localDepth, segmentAddress, keyAt}
 use Rattle.index_rules.specs.Keys.{blockStart, live, window}
 use Rattle.index_laws.proofs.Words.{within-inside}
@@ -74,24 +73,20 @@ module _ {m : Map} {g d S : ℕ} {f : ℕ → ℕ} (i : ℕ) (below : i < 2 ^ g)
     half-holds : (half : ℕ) → half < 2 → (key : ℕ) → live (suc (localDepth (f i))) (2 * bitsAt g f i + half) key ≡ true
         → Holds (m key) b (segmentAddress d (pick (eqb half 1) n (segmentOf (f i)))) key
     half-holds half small key t =
-        ⊎-elim
-        (λ (r : eqb half 1 ≡ true).
-        rw r (same-holds d n c b (segment-same n new) (m key) key (sv .new-holds key (rw (eqb-true half 1 r) at t))))
-        (λ (r : eqb half 1 ≡ false). rw r (old-holds i below key (live-whole (localDepth (f i)) (bitsAt g f i) half key small t)))
-        (cases (eqb half 1))
+        by-test (eqb half 1)
+        (λ r. rw r (same-holds d n c b (segment-same n new) (m key) key (sv .new-holds key (rw (eqb-true half 1 r) at t))))
+        (λ r. rw r (old-holds i below key (live-whole (localDepth (f i)) (bitsAt g f i) half key small t)))
 
     half-in-window : (half : ℕ) → half < 2 → (j : ℕ) → j < 64
         → live (suc (localDepth (f i))) (2 * bitsAt g f i + half)
         (keyAt b (segmentAddress d (pick (eqb half 1) n (segmentOf (f i)))) j) ≡ true
         → List·Memᴰ j (window (keyAt b (segmentAddress d (pick (eqb half 1) n (segmentOf (f i)))) j))
     half-in-window half small j l t =
-        ⊎-elim
-        (λ (r : eqb half 1 ≡ true).
+        by-test (eqb half 1)
+        (λ r.
         let e = same-key d n c b (segment-same n new) j l in
         rw (r, e) (sv .new-in-window j l (rw (r, e, eqb-true half 1 r) at t)))
-        (λ (r : eqb half 1 ≡ false).
-        rw r (old-in-window i below j l (live-whole (localDepth (f i)) (bitsAt g f i) half _ small (rw r at t))))
-        (cases (eqb half 1))
+        (λ r. rw r (old-in-window i below j l (live-whole (localDepth (f i)) (bitsAt g f i) half _ small (rw r at t))))
 
     halved-holds : (k : ℕ) → k < 2 ^ g → Place g f i n k → (key : ℕ) → LiveAt g (halvedDirectory g f i n) k key
         → Holds (m key) b (baseAt d (halvedDirectory g f i n) k) key

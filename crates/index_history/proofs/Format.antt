@@ -1,5 +1,4 @@
 -- A format that answers done leaves a store that the invariant holds of, with the empty map, whatever stood there before.
--- Assumes nothing.
 use mathlib.Core.Path.{_≡_, refl, sym, _∙_}
 use mathlib.Core.Bool.{true, _&&_}
 use mathlib.Core.List.{List, [], _∷_, List·Memᴰ}

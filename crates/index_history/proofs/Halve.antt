@@ -1,5 +1,4 @@
 -- Copy step and entry update: the map is kept after every number of their stores, and what the whole of them leaves.
--- Assumes nothing.
 use mathlib.Core.Path.{_≡_, ap, _∙_}
 use mathlib.Core.List.{List, _++_}
 use Prim.Native.Nat.{ℕ, _^_, _<_}

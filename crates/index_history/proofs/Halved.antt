@@ -1,14 +1,12 @@
 -- After a split no two blocks share a segment.
--- Assumes nothing.
 use mathlib.Core.Path.{_≡_, sym, ap, _∙_}
-use mathlib.Core.Bool.{true, false}
-use mathlib.Core.Logic.{inl, inr, ⊎-elim}
+use mathlib.Core.Logic.{inl, inr}
 use Prim.Native.Nat.{ℕ, _^_, _<_}
 use native.Mathlib.Omega.{arith}
 use borrow.Author.Tests.{eqb-true, eqb-false}
 use lib.Dec.{eqb}
 use Rattle.stores.specs.Lists.{pick}
-use Rattle.stores.proofs.Tests.{cases}
+use Rattle.stores.proofs.Tests.{by-test}
 use Rattle.index_rules.specs.Layout.{segmentOf, localDepth}
 use Rattle.index_laws.proofs.Blocks.{SameBlock, halvedDirectory, Outside, Place, place, halved-blocks}
 use Rattle.index_history.proofs.Invariant.{Directory}
@@ -20,27 +18,14 @@ module _ {g S : ℕ} {f : ℕ → ℕ} (dir : Directory g S f) (fits : S < 2 ^ 3
 
   -- No segment outside the block is one of the two halves'.
   other-segment : (j b : ℕ) → j < 2 ^ g → Outside g f i n j → segmentOf (f j) ≡ pick (eqb b 1) n (segmentOf (f i)) → ⊥
-  other-segment j b h q e =
-      ⊎-elim
-      (λ (t : eqb b 1 ≡ true). unnamed j h (rw t at e))
-      (λ (t : eqb b 1 ≡ false). q .other (dir .apart i j below h (rw t at e)))
-      (cases (eqb b 1))
+  other-segment j b h q e = by-test (eqb b 1) (λ t. unnamed j h (rw t at e)) (λ t. q .other (dir .apart i j below h (rw t at e)))
 
   -- The two halves have different segments.
   half-inj : (b c : ℕ) → b < 2 → c < 2 → pick (eqb b 1) n (segmentOf (f i)) ≡ pick (eqb c 1) n (segmentOf (f i)) → b ≡ c
   half-inj b c p q e =
-      ⊎-elim
-      (λ (t : eqb b 1 ≡ true).
-      ⊎-elim
-      (λ (u : eqb c 1 ≡ true). eqb-true b 1 t ∙ sym (eqb-true c 1 u))
-      (λ (u : eqb c 1 ≡ false). absurd (unnamed i below (sym (rw (t, u) at e))))
-      (cases (eqb c 1)))
-      (λ (t : eqb b 1 ≡ false).
-      ⊎-elim
-      (λ (u : eqb c 1 ≡ true). absurd (unnamed i below (rw (t, u) at e)))
-      (λ (u : eqb c 1 ≡ false). omega (arith, eqb-false b 1 t, eqb-false c 1 u))
-      (cases (eqb c 1)))
-      (cases (eqb b 1))
+      by-test (eqb b 1)
+      (λ t. by-test (eqb c 1) (λ u. eqb-true b 1 t ∙ sym (eqb-true c 1 u)) (λ u. absurd (unnamed i below (sym (rw (t, u) at e)))))
+      (λ t. by-test (eqb c 1) (λ u. absurd (unnamed i below (rw (t, u) at e))) (λ u. omega (arith, eqb-false b 1 t, eqb-false c 1 u)))
 
   halved-apart : (k j : ℕ) → k < 2 ^ g → j < 2 ^ g → Place g f i n k → Place g f i n j
       → segmentOf (halvedDirectory g f i n j) ≡ segmentOf (halvedDirectory g f i n k) → SameBlock g (halvedDirectory g f i n) k j

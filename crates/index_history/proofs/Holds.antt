@@ -1,15 +1,10 @@
 -- What the probe window of a key holds in a segment, and how changes of the segment's slots change it.
--- Assumes nothing.
 use mathlib.Core.Path.{_≡_, refl, sym, ap, _∙_}
-use mathlib.Core.Bool.{true, false}
 use mathlib.Core.List.{List, List·Memᴰ}
 use mathlib.Core.Option.{Option, none, some}
-use mathlib.Core.Logic.{⊎-elim}
 use Prim.Native.Nat.{ℕ, _<_}
-use borrow.Author.Tests.{eqb-true, eqb-false}
-use lib.Dec.{eqb}
 use lib.ListN.{length, set}
-use Rattle.stores.proofs.Tests.{cases}
+use Rattle.stores.proofs.Tests.{by-equal}
 use Rattle.stores.proofs.Stores.{word-set-same}
 use Rattle.index_rules.specs.Layout.{keyAddress, valueAddress, keyAt, valueAt}
 use Rattle.index_rules.specs.Keys.{window}
@@ -111,12 +106,9 @@ pub holds-removed : (m : Option ℕ) (a : List ℕ) (base key j : ℕ) → (key 
     → hit a base key ≡ some j
     → Holds none (set a (keyAddress base j) 0) base key
 holds-removed m a base key j nonzero inside h e k w q =
-    ⊎-elim
-    (λ (t : eqb k j ≡ true). nonzero (sym q ∙ rw (eqb-true k j t) (word-set-same a (keyAddress base j) 0 inside)))
-    (λ (t : eqb k j ≡ false).
-    let unlike : k ≡ j → ⊥ = eqb-false k j t in
-    unlike (hit-only m a base key j h e k w (sym (key-after-key a base j 0 k unlike) ∙ q)))
-    (cases (eqb k j))
+    by-equal k j
+    (λ t. nonzero (sym q ∙ rw t (word-set-same a (keyAddress base j) 0 inside)))
+    (λ unlike. unlike (hit-only m a base key j h e k w (sym (key-after-key a base j 0 k unlike) ∙ q)))
 
 -- A change of slot j, whose key is neither before nor after the change the key asked for, is not seen.
 pub holds-other-value : (m : Option ℕ) (a : List ℕ) (base key j v : ℕ) → (keyAt a base j ≡ key → ⊥) → Holds m a base key
@@ -140,11 +132,9 @@ holds-other-key m a base key j x inside before after h =
   where
     back : (k : ℕ) → List·Memᴰ k (window key) → keyAt (set a (keyAddress base j) x) base k ≡ key → keyAt a base k ≡ key
     back k w q =
-        ⊎-elim
-        (λ (t : eqb k j ≡ true).
-        absurd (after (sym (word-set-same a (keyAddress base j) x inside) ∙ (rw (eqb-true k j t) at q))))
-        (λ (t : eqb k j ≡ false). sym (key-after-key a base j x k (eqb-false k j t)) ∙ q)
-        (cases (eqb k j))
+        by-equal k j
+        (λ t. absurd (after (sym (word-set-same a (keyAddress base j) x inside) ∙ (rw t at q))))
+        (λ t. sym (key-after-key a base j x k t) ∙ q)
 
     forth : (k : ℕ) → List·Memᴰ k (window key) → keyAt a base k ≡ key
         → (keyAt (set a (keyAddress base j) x) base k ≡ key) × (valueAt (set a (keyAddress base j) x) base k ≡ valueAt a base k)

@@ -1,18 +1,16 @@
 -- The statements of `specs/` at small cases: each is taken as a hypothesis, and antt computes what it asks for. This file imports no proof of a
 -- statement: one that holds of nothing, or says nothing, is refused here. Where a conclusion is a record, samples that it must rule out
 -- stand beside it.
--- Assumes nothing.
 use Prim.Native.Nat.{ℕ}
 use mathlib.Core.Path.{_≡_, refl, sym, ap, _∙_}
 use mathlib.Core.Bool.{Bool, true, false, false≢true, _||_}
 use mathlib.Core.List.{List, [], _∷_, _++_, List·Memᴰ·head}
 use mathlib.Core.Option.{some}
-use mathlib.Core.Logic.{⊎-elim}
 use native.Mathlib.Omega.{arith}
 use lib.Dec.{lit≤}
 use lib.ListN.{length, replicate}
 use Rattle.stores.specs.Written.{atFront}
-use Rattle.stores.proofs.Tests.{cases}
+use Rattle.stores.proofs.Tests.{by-test}
 use Rattle.replies.specs.declared.Refusal.the-variants.{CutOff}
 use Rattle.replies.specs.declared.Reply.the-variants.{Done, Value, Refused}
 use Rattle.replies.specs.declared.Answer.{Answer}
@@ -140,13 +138,12 @@ some-to-mend = refl
 
 pub all-wait : EarlyCalls → (value allowance : ℕ) → waitsThere (behind (cutSplit .calls)) (Put 23 value allowance) ≡ true
 all-wait early value allowance =
-    ⊎-elim
-    (λ (waits : waitsThere (behind (cutSplit .calls)) (Put 23 value allowance) ≡ true). waits)
-    (λ (on : waitsThere (behind (cutSplit .calls)) (Put 23 value allowance) ≡ false).
+    by-test (waitsThere (behind (cutSplit .calls)) (Put 23 value allowance))
+    (λ waits. waits)
+    (λ on.
     let m : mending (behind (cutSplit .calls) .array) ≡ [] = early (behind (cutSplit .calls)) (covered (cutSplit .calls) cut-split-valid) []
     (Put 23 value allowance) (waits-put value allowance) on in
     absurd (omega (arith, sym some-to-mend ∙ ap length m)))
-    (cases (waitsThere (behind (cutSplit .calls)) (Put 23 value allowance)))
 
 -- ---- Lists and merges
 

@@ -1,19 +1,15 @@
 -- The invariant of the history proof: what holds of the array at every point of a run, with the map as it is then.
 -- Its facts speak of an index of the directory and of its block's bits, not of a key.
--- Assumes nothing.
 use mathlib.Core.Path.{_≡_, refl, sym, ap, _∙_}
 use mathlib.Core.Bool.{true, false}
 use mathlib.Core.List.{List, List·Memᴰ}
 use mathlib.Core.Option.{Option}
-use mathlib.Core.Logic.{⊎-elim}
 use Prim.Native.Nat.{ℕ, _^_, _≤_, _<_}
 use native.Mathlib.Omega.{arith}
-use borrow.Author.Tests.{eqb-true, eqb-false}
-use lib.Dec.{eqb}
 use lib.ListN.{length}
 use lib.Pow.{pow-mono}
 use Rattle.stores.specs.Store.{word}
-use Rattle.stores.proofs.Tests.{cases}
+use Rattle.stores.proofs.Tests.{by-test, by-equal}
 use Rattle.index_rules.specs.Layout.{depth, maxDepth, segments, header, wordsFor, entryAt, segmentOf, localDepth, segmentAddress, keyAt, valueAt}
 use Rattle.index_rules.specs.Keys.{index, blockBits, blockStart, live, window}
 use Rattle.index_laws.proofs.Words.{ValidHeader, header-depth, header-maxDepth, header-segments, header-mark, Within, key-within, value-within}
@@ -214,11 +210,9 @@ module _ {m m′ : Map} {g d S : ℕ} {f : ℕ → ℕ} {a : List ℕ} (i : ℕ)
   not-live-here : (k : ℕ) → k < 2 ^ g → (segmentOf (f k) ≡ segmentOf (f i) → ⊥) → (key : ℕ) → LiveAt g f k key
       → live (localDepth (f i)) (bitsAt g f i) key ≡ false
   not-live-here k h unlike key t =
-      ⊎-elim
-      (λ (u : live (localDepth (f i)) (bitsAt g f i) key ≡ true).
-      absurd (unlike (ap segmentOf (sym (live-block (inv .directory) k key h t) ∙ live-block (inv .directory) i key below u))))
-      (λ (u : live (localDepth (f i)) (bitsAt g f i) key ≡ false). u)
-      (cases (live (localDepth (f i)) (bitsAt g f i) key))
+      by-test (live (localDepth (f i)) (bitsAt g f i) key)
+      (λ u. absurd (unlike (ap segmentOf (sym (live-block (inv .directory) k key h t) ∙ live-block (inv .directory) i key below u))))
+      (λ u. u)
 
   -- A block with the same segment is index i's block.
   same-entry : (k : ℕ) → k < 2 ^ g → segmentOf (f k) ≡ segmentOf (f i) → f k ≡ f i
@@ -229,31 +223,23 @@ module _ {m m′ : Map} {g d S : ℕ} {f : ℕ → ℕ} {a : List ℕ} (i : ℕ)
 
   now-holds-all : (k : ℕ) → k < 2 ^ g → (key : ℕ) → LiveAt g f k key → Holds (m′ key) b (baseAt d f k) key
   now-holds-all k h key t =
-      ⊎-elim
-      (λ (e : eqb (segmentOf (f k)) (segmentOf (f i)) ≡ true).
-      let q = eqb-true (segmentOf (f k)) (segmentOf (f i)) e in
-      rw (same-entry k h q) (ch .now-holds key (rw (same-bits k h q, ap localDepth (same-entry k h q)) at t)))
-      (λ (e : eqb (segmentOf (f k)) (segmentOf (f i)) ≡ false).
-      let u = eqb-false (segmentOf (f k)) (segmentOf (f i)) e in
+      by-equal (segmentOf (f k)) (segmentOf (f i))
+      (λ q. rw (same-entry k h q) (ch .now-holds key (rw (same-bits k h q, ap localDepth (same-entry k h q)) at t)))
+      (λ u.
       rw (ch .map-same key (not-live-here k h u key t))
       (same-holds d (segmentOf (f k)) a b (ch .others-same (segmentOf (f k)) (inv .directory .entries .below k h) u) (m key) key
       (inv .holds k h key t)))
-      (cases (eqb (segmentOf (f k)) (segmentOf (f i))))
 
   now-in-window-all : (k : ℕ) → k < 2 ^ g → (j : ℕ) → j < 64 → LiveAt g f k (keyAt b (baseAt d f k) j)
       → List·Memᴰ j (window (keyAt b (baseAt d f k) j))
   now-in-window-all k h j l t =
-      ⊎-elim
-      (λ (e : eqb (segmentOf (f k)) (segmentOf (f i)) ≡ true).
-      let q = eqb-true (segmentOf (f k)) (segmentOf (f i)) e in
-      rw (same-entry k h q) (ch .now-in-window j l (rw (same-bits k h q, same-entry k h q) at t)))
-      (λ (e : eqb (segmentOf (f k)) (segmentOf (f i)) ≡ false).
-      let u = eqb-false (segmentOf (f k)) (segmentOf (f i)) e in
+      by-equal (segmentOf (f k)) (segmentOf (f i))
+      (λ q. rw (same-entry k h q) (ch .now-in-window j l (rw (same-bits k h q, same-entry k h q) at t)))
+      (λ u.
       let w =
       same-key d (segmentOf (f k)) a b (ch .others-same (segmentOf (f k)) (inv .directory .entries .below k h) u) j l
       in
       rw w (inv .in-window k h j l (rw w at t)))
-      (cases (eqb (segmentOf (f k)) (segmentOf (f i))))
 
   pub block-recovered : Recovered g f b
   block-recovered k h = ch .entries-same k h ∙ same k h

@@ -1,13 +1,8 @@
 -- After a merge no two blocks share a segment, and none has the right half's.
--- Assumes nothing.
 use mathlib.Core.Path.{_≡_, sym, ap, _∙_}
-use mathlib.Core.Bool.{true, false}
-use mathlib.Core.Logic.{⊎-elim}
 use Prim.Native.Nat.{ℕ, suc, _+_, _*_, _^_, _<_}
 use native.Mathlib.Omega.{arith}
-use borrow.Author.Tests.{eqb-true, eqb-false}
-use lib.Dec.{eqb}
-use Rattle.stores.proofs.Tests.{cases}
+use Rattle.stores.proofs.Tests.{by-equal}
 use Rattle.index_rules.specs.Layout.{entry, segmentOf, localDepth}
 use Rattle.index_rules.specs.Keys.{blockBits, blockStart}
 use Rattle.index_rules.specs.Merge.{rightStart}
@@ -61,27 +56,21 @@ module _ {g S M : ℕ} {f : ℕ → ℕ} {i left right : ℕ} (dir : Directory g
   joined-apart : (k j : ℕ) → k < 2 ^ g → j < 2 ^ g
       → segmentOf (joinedDirectory g M f i left j) ≡ segmentOf (joinedDirectory g M f i left k) → SameBlock g (joinedDirectory g M f i left) k j
   joined-apart k j hk hj e =
-      ⊎-elim
-      (λ (t : eqb (blockBits g M k) (blockBits g M i) ≡ true).
-      let p = eqb-true (blockBits g M k) (blockBits g M i) t in
-      rw (joined-depth h fits left-below k p) (joins j hj (e ∙ joined-segment h fits left-below k p) ∙ sym p))
-      (λ (t : eqb (blockBits g M k) (blockBits g M i) ≡ false).
-      let u = eqb-false (blockBits g M k) (blockBits g M i) t in
+      by-equal (blockBits g M k) (blockBits g M i)
+      (λ p. rw (joined-depth h fits left-below k p) (joins j hj (e ∙ joined-segment h fits left-below k p) ∙ sym p))
+      (λ u.
       let kept = joined-out g M f i left k u in
       let apart-j : blockBits g M j ≡ blockBits g M i → ⊥ =
       λ q. u (half-in h k 0 (omega arith) (names-left k hk (sym (ap segmentOf kept) ∙ sym e ∙ joined-segment h fits left-below j q) ∙ omega arith)) in
       rw kept (dir .apart k j hk hj (rw (kept, joined-out g M f i left j apart-j) at e)))
-      (cases (eqb (blockBits g M k) (blockBits g M i)))
     where
       -- An index whose entry names the left segment afterwards is in the joined block.
       joins : (j : ℕ) → j < 2 ^ g → segmentOf (joinedDirectory g M f i left j) ≡ left → blockBits g M j ≡ blockBits g M i
       joins j hj e =
-          ⊎-elim
-          (λ (t : eqb (blockBits g M j) (blockBits g M i) ≡ true). eqb-true (blockBits g M j) (blockBits g M i) t)
-          (λ (t : eqb (blockBits g M j) (blockBits g M i) ≡ false).
-          let u = eqb-false (blockBits g M j) (blockBits g M i) t in
+          by-equal (blockBits g M j) (blockBits g M i)
+          (λ t. t)
+          (λ u.
           absurd (u (half-in h j 0 (omega arith) (names-left j hj (sym (ap segmentOf (joined-out g M f i left j u)) ∙ e) ∙ omega arith))))
-          (cases (eqb (blockBits g M j) (blockBits g M i)))
 
   pub joined-directory : Directory g S (joinedDirectory g M f i left)
   joined-directory =
@@ -93,10 +82,6 @@ module _ {g S M : ℕ} {f : ℕ → ℕ} {i left right : ℕ} (dir : Directory g
   -- No entry names the right half's segment.
   pub right-unnamed : (j : ℕ) → j < 2 ^ g → segmentOf (joinedDirectory g M f i left j) ≡ right → ⊥
   right-unnamed j k e =
-      ⊎-elim
-      (λ (t : eqb (blockBits g M j) (blockBits g M i) ≡ true).
-      segments-apart (sym (joined-segment h fits left-below j (eqb-true (blockBits g M j) (blockBits g M i) t)) ∙ e))
-      (λ (t : eqb (blockBits g M j) (blockBits g M i) ≡ false).
-      let u = eqb-false (blockBits g M j) (blockBits g M i) t in
-      u (half-in h j 1 (omega arith) (names-right j k (sym (ap segmentOf (joined-out g M f i left j u)) ∙ e))))
-      (cases (eqb (blockBits g M j) (blockBits g M i)))
+      by-equal (blockBits g M j) (blockBits g M i)
+      (λ t. segments-apart (sym (joined-segment h fits left-below j t) ∙ e))
+      (λ u. u (half-in h j 1 (omega arith) (names-right j k (sym (ap segmentOf (joined-out g M f i left j u)) ∙ e))))

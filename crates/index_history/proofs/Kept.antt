@@ -1,5 +1,4 @@
 -- The invariant with the depth and the directory left open.
--- Assumes nothing.
 use Prim.Native.Nat.{ℕ}
 use mathlib.Core.List.{List}
 use Rattle.runs.specs.Map.{Map}

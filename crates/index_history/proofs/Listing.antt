@@ -1,6 +1,5 @@
 -- The records of an array that needs no recovery are the map's: each key that has a value once, with its value, and no other.
 -- So are the same records in any other order.
--- Assumes nothing.
 use mathlib.Core.Path.{_≡_, refl, sym, ap, _∙_}
 use mathlib.Core.Bool.{Bool, true, false}
 use mathlib.Core.List.{List, [], _∷_, _++_, List·Memᴰ, List·Memᴰ·head, List·Memᴰ·tail, List·Memᴰ·not-nil, List·Memᴰ·eq-of-singleton}
@@ -12,7 +11,7 @@ use native.Mathlib.Omega.{arith}
 use borrow.Author.Tests.{eqb-true, eq-eqb, ne-eqb}
 use lib.Dec.{eqb}
 use Rattle.stores.specs.Lists.{pick, each}
-use Rattle.stores.proofs.Tests.{cases}
+use Rattle.stores.proofs.Tests.{by-test}
 use Rattle.stores.proofs.Lists.{each-zero, each-suc, each-same, mem-each}
 use Rattle.index_rules.specs.Layout.{localDepth, keyAt, valueAt}
 use Rattle.index_rules.specs.Keys.{index, width, blockBits, blockStart, live}
@@ -93,12 +92,11 @@ record SlotRecord (a : List ℕ) (base L bits j : ℕ) (r : Record) : Type 0 whe
 mem-slot : (a : List ℕ) (base L bits j : ℕ) (r : Record) → List·Memᴰ r (liveRecord a base L bits j) → SlotRecord a base L bits j r
 unfolding liveRecord
 mem-slot a base L bits j r k =
-    ⊎-elim
-    (λ (t : live L bits (keyAt a base j) ≡ true).
+    by-test (live L bits (keyAt a base j))
+    (λ t.
     let e : r ≡ record { key = keyAt a base j; value = valueAt a base j } = List·Memᴰ·eq-of-singleton (rw t at k) in
     record { is-live = t; its-key = ap (λ (s : Record). s .key) e; its-value = ap (λ (s : Record). s .value) e })
-    (λ (t : live L bits (keyAt a base j) ≡ false). absurd (List·Memᴰ·not-nil (rw t at k)))
-    (cases (live L bits (keyAt a base j)))
+    (λ t. absurd (List·Memᴰ·not-nil (rw t at k)))
 
 occurrences-slot : (a : List ℕ) (base L bits j key : ℕ) → live L bits key ≡ true → keyAt a base j ≡ key
     → occurrences key (liveRecord a base L bits j) ≡ 1
@@ -132,12 +130,11 @@ module _ {m : Map} {g d S : ℕ} {f : ℕ → ℕ} {a : List ℕ} (inv : Inv m g
   mem-adds : (i : ℕ) (r : Record) → List·Memᴰ r (adds i)
       → (first i ≡ i) × ((j : ℕ) × (j < 64) × SlotRecord a (baseAt d f i) (localDepth (f i)) (bitsAt g f i) j r)
   mem-adds i r k =
-      ⊎-elim
-      (λ (t : eqb (first i) i ≡ true).
+      by-test (eqb (first i) i)
+      (λ t.
       let at = mem-each r (slotRecords i) 64 (rw t at k) in
       (eqb-true (first i) i t, (at .0, at .1, mem-slot a (baseAt d f i) (localDepth (f i)) (bitsAt g f i) (at .0) r (at .2))))
-      (λ (t : eqb (first i) i ≡ false). absurd (List·Memᴰ·not-nil (rw t at k)))
-      (cases (eqb (first i) i))
+      (λ t. absurd (List·Memᴰ·not-nil (rw t at k)))
 
   -- A record of index i's block is the map's.
   slot-right : (i : ℕ) → i < 2 ^ g → (j : ℕ) → j < 64 → (r : Record)

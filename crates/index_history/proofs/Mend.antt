@@ -1,5 +1,4 @@
 -- Mending keeps the invariant under every allowance, and with enough leaves a store that needs no recovery.
--- Assumes nothing.
 use mathlib.Core.Path.{_≡_, _∙_}
 use mathlib.Core.List.{List}
 use mathlib.Core.Logic.{_⊎_, ⊎-elim}

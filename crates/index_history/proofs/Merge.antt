@@ -1,16 +1,14 @@
 -- A merge on a key but 0 keeps the map under every allowance; done, it frees the right half's segment.
--- Assumes nothing.
 use mathlib.Core.Path.{_≡_, refl, sym, ap, _∙_}
-use mathlib.Core.Bool.{true, false}
+use mathlib.Core.Bool.{false}
 use mathlib.Core.List.{List, []}
 use mathlib.Core.Option.{none}
-use mathlib.Core.Logic.{⊎-elim}
 use Prim.Native.Nat.{ℕ, _^_, _<_}
 use borrow.Author.Tests.{eqb-true}
 use lib.Dec.{eqb}
 use Rattle.stores.specs.Store.{apply}
 use Rattle.stores.specs.Lists.{anyBelow}
-use Rattle.stores.proofs.Tests.{cases}
+use Rattle.stores.proofs.Tests.{by-test}
 use Rattle.stores.proofs.Lists.{any-at}
 use Rattle.index_laws.proofs.Put.{free-found}
 use Rattle.index_history.specs.Further.{FreeIn}
@@ -85,12 +83,11 @@ module _ {m : Map} {g d S : ℕ} {f : ℕ → ℕ} {a : List ℕ} (inv : Inv m g
     unfolding named
     unnamed-after =
         rw (shape-depth shape-after)
-        (⊎-elim
-        (λ (t : anyBelow (λ j. eqb (segmentOf (entryAt merged g j)) (segmentOf (rightEntry a i e))) (2 ^ g) ≡ true).
+        (by-test (anyBelow (λ j. eqb (segmentOf (entryAt merged g j)) (segmentOf (rightEntry a i e))) (2 ^ g))
+        (λ t.
         let r = any-at _ (2 ^ g) t in
         absurd (not-right (r .0) (r .1) (eqb-true (segmentOf (entryAt merged g (r .0))) (segmentOf (rightEntry a i e)) (r .2))))
-        (λ (t : anyBelow (λ j. eqb (segmentOf (entryAt merged g j)) (segmentOf (rightEntry a i e))) (2 ^ g) ≡ false). t)
-        (cases (anyBelow (λ j. eqb (segmentOf (entryAt merged g j)) (segmentOf (rightEntry a i e))) (2 ^ g))))
+        (λ t. t))
 
     free-after : FreeIn (segmentOf (rightEntry a i e)) merged
     free-after =
@@ -115,15 +112,12 @@ module _ {m : Map} {g d S : ℕ} {f : ℕ → ℕ} {a : List ℕ} (inv : Inv m g
   pub merge-plan : (key ≡ 0 → ⊥) → PlanKept keeps m d S (merge a key) a
   unfolding merge tested fed
   merge-plan nonzero =
-      ⊎-elim
-      (λ (t : hasBuddy a (index key (depth a)) e ≡ true).
-      ⊎-elim
-      (λ (u : bothLiveAt a (index key (depth a)) e ≡ true).
+      by-test (hasBuddy a (index key (depth a)) e)
+      (λ t.
+      by-test (bothLiveAt a (index key (depth a)) e)
+      (λ u.
       rw (tests-are nonzero ∙ both-live a (index key (depth a)) (keyEntry a key) t u) (refusal-kept keeps BothLive refl refl refl whole))
-      (λ (u : bothLiveAt a (index key (depth a)) e ≡ false).
+      (λ u.
       let passed : mergeTests a key ≡ none = tests-are nonzero ∙ both-pass a (index key (depth a)) (keyEntry a key) t u in
-      rw passed (stores-kept (merge-passed a key passed)))
-      (cases (bothLiveAt a (index key (depth a)) e)))
-      (λ (t : hasBuddy a (index key (depth a)) e ≡ false).
-      rw (tests-are nonzero ∙ no-buddy a (index key (depth a)) (keyEntry a key) t) (refusal-kept keeps NoBuddy refl refl refl whole))
-      (cases (hasBuddy a (index key (depth a)) e))
+      rw passed (stores-kept (merge-passed a key passed))))
+      (λ t. rw (tests-are nonzero ∙ no-buddy a (index key (depth a)) (keyEntry a key) t) (refusal-kept keeps NoBuddy refl refl refl whole))

@@ -1,6 +1,5 @@
 -- A merge keeps the map after every number of its stores, and whole it leaves a store that needs no recovery, in which no entry names
 -- the right segment. Its slots change records that are not live in the left half; its entries go from the two halves to the joined block.
--- Assumes nothing.
 use mathlib.Core.Path.{_≡_, refl, sym, ap, _∙_}
 use mathlib.Core.Bool.{Bool, true, false, true≢false, not, _&&_}
 use mathlib.Core.List.{List, [], _++_, List·Memᴰ}
@@ -8,11 +7,11 @@ use mathlib.Core.Logic.{_⊎_, inl, inr, ⊎-elim}
 use Prim.Native.Nat.{ℕ, zero, suc, _+_, _*_, _^_, _≤_, _<_}
 use native.Mathlib.Nat.{add-zero}
 use native.Mathlib.Omega.{arith}
-use borrow.Author.Tests.{eqb-true, eqb-false, not-true}
+use borrow.Author.Tests.{eqb-true, not-true}
 use lib.Dec.{eqb}
 use lib.ListN.{length, take}
 use Rattle.stores.specs.Store.{Store, word, store, apply, exec, Every}
-use Rattle.stores.proofs.Tests.{cases, and-true, and-right}
+use Rattle.stores.proofs.Tests.{by-test, by-equal, and-true, and-right}
 use Rattle.stores.proofs.Lists.{any-true, every-each, every-take, every-map}
 use Rattle.stores.proofs.Stores.{apply-append, length-apply, length-exec, exec-all, exec-none, word-set-same, word-elsewhere, word-keeps}
 use Rattle.stores.proofs.Prefixes.{Always, always-whole, exec-elsewhere}
@@ -48,15 +47,12 @@ slot-stores a left right M bits j = record-every (InSlot left j) left M bits j _
 -- A key that is not stale in the left half is empty, or live there: it is not live in the right half.
 not-stale : (a : List ℕ) (left M bits j : ℕ) → isCleared M bits (keyAt a left j) ≡ false → live (suc M) (2 * bits + 1) (keyAt a left j) ≡ false
 not-stale a left M bits j u =
-    ⊎-elim
-    (λ (z : eqb (keyAt a left j) 0 ≡ true). rw (eqb-true (keyAt a left j) 0 z) (live-empty (suc M) (2 * bits + 1)))
-    (λ (z : eqb (keyAt a left j) 0 ≡ false).
-    ⊎-elim
-    (λ (l : live (suc M) (2 * bits) (keyAt a left j) ≡ true).
-    live-stale (suc M) (2 * bits + 1) (keyAt a left j) (λ e. omega (arith, live-index (suc M) (2 * bits) (keyAt a left j) l)))
-    (λ (l : live (suc M) (2 * bits) (keyAt a left j) ≡ false). absurd (true≢false (rw (z, l) at u)))
-    (cases (live (suc M) (2 * bits) (keyAt a left j))))
-    (cases (eqb (keyAt a left j) 0))
+    by-test (eqb (keyAt a left j) 0)
+    (λ z. rw (eqb-true (keyAt a left j) 0 z) (live-empty (suc M) (2 * bits + 1)))
+    (λ z.
+    by-test (live (suc M) (2 * bits) (keyAt a left j))
+    (λ l. live-stale (suc M) (2 * bits + 1) (keyAt a left j) (λ e. omega (arith, live-index (suc M) (2 * bits) (keyAt a left j) l)))
+    (λ l. absurd (true≢false (rw (z, l) at u))))
 
 module _ (a : List ℕ) (left right M bits j : ℕ) (h : j < 64) where
   merged-alone : (at : ℕ) → InSlot left j at
@@ -83,16 +79,15 @@ module _ (a : List ℕ) (left right M bits j : ℕ) (h : j < 64) where
       → live (suc M) (2 * bits + 1) (keyAt (apply (mergingSlots a left a right M bits) a) left j) ≡ false
   unfolding mergeSlot mergeRecord apply
   not-moved t inside =
-      ⊎-elim
-      (λ (u : isCleared M bits (keyAt a left j) ≡ true).
+      by-test (isCleared M bits (keyAt a left j))
+      (λ u.
       let cleared : keyAt (apply (mergingSlots a left a right M bits) a) left j ≡ 0 =
       merged-alone (keyAddress left j) (key-in-slot left j) ∙ rw (t, u) (word-set-same a (keyAddress left j) 0 inside) in
       rw cleared (live-empty (suc M) (2 * bits + 1)))
-      (λ (u : isCleared M bits (keyAt a left j) ≡ false).
+      (λ u.
       let stays : keyAt (apply (mergingSlots a left a right M bits) a) left j ≡ keyAt a left j =
       merged-alone (keyAddress left j) (key-in-slot left j) ∙ rw (t, u) refl in
       rw stays (not-stale a left M bits j u))
-      (cases (isCleared M bits (keyAt a left j)))
 
 -- ---- The merge of the two halves of the block of local depth M that holds index i
 
@@ -142,11 +137,9 @@ module _ {m : Map} {g d S M : ℕ} {f : ℕ → ℕ} {a : List ℕ} {i left righ
   -- A key of the joined block is of one of its halves.
   either-half : (key : ℕ) → live M bits key ≡ true → (live (suc M) (2 * bits) key ≡ true) ⊎ (live (suc M) (2 * bits + 1) key ≡ true)
   either-half key l =
-      ⊎-elim
-      (λ (t : eqb (bit key M) 1 ≡ true). inr (live-half M bits 1 key l (eqb-true (bit key M) 1 t)))
-      (λ (t : eqb (bit key M) 1 ≡ false).
-      inl (rw (add-zero (2 * bits)) at (live-half M bits 0 key l (omega (arith, bit-lt key M, eqb-false (bit key M) 1 t)))))
-      (cases (eqb (bit key M) 1))
+      by-equal (bit key M) 1
+      (λ t. inr (live-half M bits 1 key l t))
+      (λ t. inl (rw (add-zero (2 * bits)) at (live-half M bits 0 key l (omega (arith, bit-lt key M, t)))))
 
   -- A word of the left segment is in the array.
   left-inside : (at : ℕ) → Within d left at → at < length a
@@ -158,13 +151,12 @@ module _ {m : Map} {g d S M : ℕ} {f : ℕ → ℕ} {a : List ℕ} {i left righ
   one-side : (j : ℕ) → j < 64 → liveRight M bits (keyAt a rightBase j) ≡ true → live (suc M) (2 * bits) (keyAt a leftBase j) ≡ false
   unfolding bothLive
   one-side j k t =
-      ⊎-elim
-      (λ (u : live (suc M) (2 * bits) (keyAt a leftBase j) ≡ true).
+      by-test (live (suc M) (2 * bits) (keyAt a leftBase j))
+      (λ u.
       absurd
       (true≢false
       (sym (any-true (λ x. liveLeft M bits (keyAt a leftBase x) && liveRight M bits (keyAt a rightBase x)) 64 j k (and-true u t)) ∙ apart)))
-      (λ (u : live (suc M) (2 * bits) (keyAt a leftBase j) ≡ false). u)
-      (cases (live (suc M) (2 * bits) (keyAt a leftBase j)))
+      (λ u. u)
 
   -- A store of a slot goes to one that is not live in the left half, and a key that it stores is not live there either.
   record Unseen (s : Store) : Type 0 where
@@ -176,8 +168,8 @@ module _ {m : Map} {g d S M : ℕ} {f : ℕ → ℕ} {a : List ℕ} {i left righ
   slot-unseen : (j : ℕ) → j < 64 → Every Unseen (mergeSlot a leftBase a rightBase M bits j)
   unfolding mergeSlot mergeRecord
   slot-unseen j k =
-      ⊎-elim
-      (λ (t : live (suc M) (2 * bits + 1) (keyAt a rightBase j) ≡ true).
+      by-test (live (suc M) (2 * bits + 1) (keyAt a rightBase j))
+      (λ t.
       rw t (
         record { slot = j; not-live = one-side j k t; at-slot = value-in-slot leftBase j; stale-key = λ e. absurd (omega arith) },
         (
@@ -192,9 +184,9 @@ module _ {m : Map} {g d S M : ℕ} {f : ℕ → ℕ} {a : List ℕ} {i left righ
           Prim.tt,
         ),
       ))
-      (λ (t : live (suc M) (2 * bits + 1) (keyAt a rightBase j) ≡ false).
-      ⊎-elim
-      (λ (u : isCleared M bits (keyAt a leftBase j) ≡ true).
+      (λ t.
+      by-test (isCleared M bits (keyAt a leftBase j))
+      (λ u.
       rw (t, u) (
         record {
           slot = j;
@@ -204,9 +196,7 @@ module _ {m : Map} {g d S M : ℕ} {f : ℕ → ℕ} {a : List ℕ} {i left righ
         },
         Prim.tt,
       ))
-      (λ (u : isCleared M bits (keyAt a leftBase j) ≡ false). rw (t, u) Prim.tt)
-      (cases (isCleared M bits (keyAt a leftBase j))))
-      (cases (live (suc M) (2 * bits + 1) (keyAt a rightBase j)))
+      (λ u. rw (t, u) Prim.tt))
 
   slots-kind : Every Unseen slots
   unfolding mergingSlots
@@ -278,11 +268,9 @@ module _ {m : Map} {g d S M : ℕ} {f : ℕ → ℕ} {a : List ℕ} {i left righ
   -- A key of the left segment that is live in the right half has come from there.
   came : (j : ℕ) → j < 64 → live (suc M) (2 * bits + 1) (keyAt between leftBase j) ≡ true → liveRight M bits (keyAt a rightBase j) ≡ true
   came j k l =
-      ⊎-elim
-      (λ (t : liveRight M bits (keyAt a rightBase j) ≡ true). t)
-      (λ (t : liveRight M bits (keyAt a rightBase j) ≡ false).
-      absurd (true≢false (sym l ∙ not-moved a leftBase rightBase M bits j k t (left-inside _ (key-within d left j k)))))
-      (cases (liveRight M bits (keyAt a rightBase j)))
+      by-test (liveRight M bits (keyAt a rightBase j))
+      (λ t. t)
+      (λ t. absurd (true≢false (sym l ∙ not-moved a leftBase rightBase M bits j k t (left-inside _ (key-within d left j k)))))
 
   live-there : (j : ℕ) → j < 64 → live (suc M) (2 * bits + 1) (keyAt between rightBase j) ≡ true → liveRight M bits (keyAt a rightBase j) ≡ true
   live-there j k l = rw (same-key d right a between right-same j k) at l
@@ -339,12 +327,7 @@ module _ {m : Map} {g d S M : ℕ} {f : ℕ → ℕ} {a : List ℕ} {i left righ
 
   -- An index is in the joined block, or its entry is as it was.
   by-place : (k : ℕ) (P : Type 0) → (blockBits g M k ≡ blockBits g M i → P) → (joined k ≡ f k → P) → P
-  by-place k P inside outside =
-      ⊎-elim
-      (λ (t : eqb (blockBits g M k) (blockBits g M i) ≡ true). inside (eqb-true (blockBits g M k) (blockBits g M i) t))
-      (λ (t : eqb (blockBits g M k) (blockBits g M i) ≡ false).
-      outside (joined-out g M f i left k (eqb-false (blockBits g M k) (blockBits g M i) t)))
-      (cases (eqb (blockBits g M k) (blockBits g M i)))
+  by-place k P inside outside = by-equal (blockBits g M k) (blockBits g M i) inside (λ t. outside (joined-out g M f i left k t))
 
   -- The array between slots and entries serves both directories.
   serves : Serves m g d S joined i right between

@@ -1,5 +1,4 @@
 -- The history rule, and lookups before mending, over performed calls: what programs run.
--- Assumes nothing.
 use mathlib.Core.Path.{_≡_, sym, _∙_}
 use mathlib.Core.Bool.{true}
 use Rattle.replies.specs.Replies.{saidBy}

@@ -1,5 +1,4 @@
 -- What a plan is to the map, and what the call it is the plan of leaves of a run's point, under every allowance.
--- Assumes nothing.
 use mathlib.Core.Path.{_≡_, refl, sym, _∙_}
 use mathlib.Core.Bool.{Bool, true, false, true≢false}
 use mathlib.Core.List.{List, _++_}
@@ -8,12 +7,10 @@ use mathlib.Core.Logic.{⊎-elim}
 use Prim.Native.Nat.{ℕ, _-_, _<_}
 use native.Mathlib.Nat.{not-suc-le-zero}
 use native.Mathlib.Omega.{arith}
-use borrow.Author.Tests.{leb-true, leb-false}
-use lib.Dec.{leb}
 use lib.ListN.{length, length-append}
 use Rattle.stores.specs.Store.{Store, apply, exec}
 use Rattle.stores.specs.Plan.{Plan, reply-only, _then_}
-use Rattle.stores.proofs.Tests.{cases}
+use Rattle.stores.proofs.Tests.{by-at-most}
 use Rattle.stores.proofs.Stores.{apply-append, exec-append, exec-all, exec-not-made}
 use Rattle.stores.proofs.Prefixes.{Always}
 use Rattle.replies.specs.declared.Refusal.{Refusal}
@@ -44,15 +41,13 @@ module _ (view : View) {m : Map} {d S : ℕ} (a : List ℕ) (ss : List Store) (p
     (later : PlanKept view m d S p (apply ss a)) where
   prefixes-after : (k : ℕ) → k < length (ss ++ p .due) → Kept m d S (exec (ss ++ p .due) k a)
   prefixes-after k h =
-      ⊎-elim
-      (λ (l : leb k (length ss) ≡ true).
-      rw (exec-append ss (p .due) k a, exec-not-made (p .due) (k - length ss) (exec ss k a) (omega (arith, leb-true k (length ss) l)))
+      by-at-most k (length ss)
+      (λ l.
+      rw (exec-append ss (p .due) k a, exec-not-made (p .due) (k - length ss) (exec ss k a) (omega (arith, l)))
       (kept k))
-      (λ (l : leb k (length ss) ≡ false).
-      let past : length ss < k = leb-false k (length ss) l in
+      (λ past.
       rw (exec-append ss (p .due) k a, exec-all ss k a (omega arith))
       (later .prefixes (k - length ss) (omega (arith, rw (length-append ss (p .due)) at h))))
-      (cases (leb k (length ss)))
 
   pub plan-after : PlanKept view m d S (ss then p) a
   plan-after =

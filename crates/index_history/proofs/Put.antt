@@ -1,5 +1,4 @@
 -- A put of a key but 0 keeps the map under every allowance, and whole it leaves what the map is told of it.
--- Assumes nothing.
 use mathlib.Core.Path.{_≡_, refl, sym, ap, _∙_}
 use mathlib.Core.List.{List, [], _∷_}
 use mathlib.Core.Option.{Option, some}

@@ -1,6 +1,5 @@
 -- Under the invariant the scan of the directory finds the blocks of f: every leader is valid and stands for f's entry. So the
 -- tests of the calls pass.
--- Assumes nothing.
 use mathlib.Core.Path.{_≡_, _∙_}
 use mathlib.Core.Bool.{true}
 use mathlib.Core.List.{List}

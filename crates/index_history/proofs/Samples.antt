@@ -1,5 +1,4 @@
 -- Runs that antt computes from the statement alone: this file imports the statement and not its proof.
--- Assumes nothing.
 use Prim.Native.Nat.{ℕ, _+_, _*_}
 use mathlib.Core.Path.{_≡_, refl}
 use mathlib.Core.Bool.{Bool, true, false, not, _&&_, _||_}

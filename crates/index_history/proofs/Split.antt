@@ -1,16 +1,14 @@
 -- A split keeps the map after every number of its stores, and whole it leaves a store that needs no recovery.
--- Assumes nothing.
 use mathlib.Core.Path.{_≡_, sym, ap, _∙_}
-use mathlib.Core.Bool.{true, false, true≢false}
+use mathlib.Core.Bool.{true≢false}
 use mathlib.Core.List.{List, _++_}
 use mathlib.Core.Option.{some}
-use mathlib.Core.Logic.{⊎-elim}
 use Prim.Native.Nat.{ℕ, suc, _/_, _^_, _≤_, _<_}
 use native.Mathlib.Omega.{arith}
 use borrow.Author.Tests.{eqb-true, eqb-false, eq-eqb}
 use lib.Dec.{eqb}
 use Rattle.stores.specs.Store.{Store, apply}
-use Rattle.stores.proofs.Tests.{cases}
+use Rattle.stores.proofs.Tests.{by-test}
 use Rattle.stores.proofs.Lists.{any-true}
 use Rattle.stores.proofs.Stores.{apply-append}
 use Rattle.stores.proofs.Prefixes.{Always, always-append}
@@ -99,9 +97,6 @@ module _ {m : Map} {g d S : ℕ} {f : ℕ → ℕ} {a : List ℕ} (inv : Inv m g
   pub split-keeps : SplitKept m d S (splitting a key n) a
   unfolding splitting doublingFor apply
   split-keeps =
-      ⊎-elim
-      (λ (t : eqb (localDepth (f (index key g))) g ≡ true).
-      rw (own-entry, shape-depth (inv .shape), t) (with-doubling (eqb-true (localDepth (f (index key g))) g t)))
-      (λ (t : eqb (localDepth (f (index key g))) g ≡ false).
-      rw (own-entry, shape-depth (inv .shape), t) (without-doubling (eqb-false (localDepth (f (index key g))) g t)))
-      (cases (eqb (localDepth (f (index key g))) g))
+      by-test (eqb (localDepth (f (index key g))) g)
+      (λ t. rw (own-entry, shape-depth (inv .shape), t) (with-doubling (eqb-true (localDepth (f (index key g))) g t)))
+      (λ t. rw (own-entry, shape-depth (inv .shape), t) (without-doubling (eqb-false (localDepth (f (index key g))) g t)))

@@ -1,6 +1,5 @@
 -- The history rule, and lookups before mending. The invariant is `Good` (Plans.antt); each call keeps it (Calls.antt); here is the
 -- induction over the run.
--- Assumes nothing.
 use mathlib.Core.Path.{_≡_, refl, _∙_}
 use mathlib.Core.Bool.{true, false}
 use mathlib.Core.List.{List}

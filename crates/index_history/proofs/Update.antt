@@ -1,16 +1,12 @@
 -- The entry update of a split, from right to left: what holds after each number of its stores.
--- Assumes nothing.
 use mathlib.Core.Path.{_≡_, _∙_}
-use mathlib.Core.Bool.{true, false}
 use mathlib.Core.List.{List}
-use mathlib.Core.Logic.{_⊎_, inl, inr, ⊎-elim}
+use mathlib.Core.Logic.{_⊎_, inl, inr}
 use Prim.Native.Nat.{ℕ, _^_, _<_}
 use native.Mathlib.Omega.{arith}
-use borrow.Author.Tests.{ltb-true, ltb-false}
-use lib.Dec.{ltb}
 use lib.ListN.{length}
 use Rattle.stores.specs.Store.{word, apply, exec}
-use Rattle.stores.proofs.Tests.{cases}
+use Rattle.stores.proofs.Tests.{by-less}
 use Rattle.stores.proofs.Stores.{length-exec, exec-all}
 use Rattle.stores.proofs.Prefixes.{Always}
 use Rattle.index_rules.specs.Layout.{entryAddress, entryAt, segmentOf, localDepth}
@@ -49,12 +45,9 @@ module _ {m : Map} {g d S : ℕ} {f : ℕ → ℕ} (i : ℕ) (below : i < 2 ^ g)
   entry-either : (t j : ℕ) → j < 2 ^ g → Place g f i n j
       → (entryAt (exec (updates g f i n) t c) g j ≡ f j) ⊎ (entryAt (exec (updates g f i n) t c) g j ≡ halvedDirectory g f i n j)
   entry-either t j h (inl p) =
-      ⊎-elim
-      (λ (l : ltb (turnOf g f i j) t ≡ true).
-      inr (entry-made g f i n room c t j (p .block-bits) (directory-inside j h) (ltb-true (turnOf g f i j) t l)))
-      (λ (l : ltb (turnOf g f i j) t ≡ false).
-      inl (entry-not-made g f i n room c t j (p .block-bits) (ltb-false (turnOf g f i j) t l) ∙ cp .recovered j h))
-      (cases (ltb (turnOf g f i j) t))
+      by-less (turnOf g f i j) t
+      (λ l. inr (entry-made g f i n room c t j (p .block-bits) (directory-inside j h) l))
+      (λ l. inl (entry-not-made g f i n room c t j (p .block-bits) l ∙ cp .recovered j h))
   entry-either t j h (inr q) = inl (entry-outside g f i n room c t j (q .other) ∙ cp .recovered j h)
 
   -- A word outside the directory is not changed.
@@ -92,21 +85,20 @@ module _ {m : Map} {g d S : ℕ} {f : ℕ → ℕ} (i : ℕ) (below : i < 2 ^ g)
   -- Fewer than all, or all.
   pub updates-kept : Always (Kept m d S) (updates g f i n) c
   updates-kept t =
-      ⊎-elim
-      (λ (l : ltb t (width g (localDepth (f i))) ≡ true).
+      by-less t (width g (localDepth (f i)))
+      (λ l.
       record {
         g = g;
         f = f;
         inv = old-inv i below room n new unnamed serves (exec (updates g f i n) t c) (updated t)
-            (λ k h. leader-kept t k (ltb-true t (width g (localDepth (f i))) l) h);
+            (λ k h. leader-kept t k l h);
       })
-      (λ (l : ltb t (width g (localDepth (f i))) ≡ false).
+      (λ l.
       record {
         g = g;
         f = halvedDirectory g f i n;
-        inv = rw (exec-all (updates g f i n) t c (omega (arith, all, ltb-false t (width g (localDepth (f i))) l))) updates-inv;
+        inv = rw (exec-all (updates g f i n) t c (omega (arith, all, l))) updates-inv;
       })
-      (cases (ltb t (width g (localDepth (f i)))))
     where
       all : length (updates g f i n) ≡ width g (localDepth (f i))
       all = length-updating g (localDepth (f i)) (blockStart g (localDepth (f i)) i) (segmentOf (f i)) n

@@ -1,5 +1,4 @@
 -- Demand 3, the history rule, for the index: the map's answers through every run, however cut and refused (crash consistency of the map).
--- Assumes nothing.
 use Prim.Native.Nat.{ℕ}
 use mathlib.Core.Path.{_≡_}
 use mathlib.Core.Bool.{true, false}

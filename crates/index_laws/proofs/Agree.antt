@@ -1,10 +1,8 @@
 -- Two arrays that agree in the words that D and S take: what is read of them is the same.
--- Assumes nothing.
 use mathlib.Core.Path.{_≡_, refl, sym, ap, ap₂, _∙_}
 use mathlib.Core.Bool.{Bool, true, false}
 use mathlib.Core.List.{List}
 use mathlib.Core.Option.{Option, none, some}
-use mathlib.Core.Logic.{⊎-elim}
 use Prim.Native.Nat.{ℕ, zero, suc, _+_, _^_, _≤_, _<_}
 use native.Mathlib.Omega.{arith}
 use lib.Dec.{eqb}
@@ -13,7 +11,7 @@ use lib.Pow.{pow-pos}
 use Rattle.stores.specs.Lists.{pick, each}
 use Rattle.stores.specs.Store.{Store, word, store, apply}
 use Rattle.stores.specs.Plan.{Plan}
-use Rattle.stores.proofs.Tests.{cases}
+use Rattle.stores.proofs.Tests.{by-test}
 use Rattle.stores.proofs.Lists.{each-same, all-same}
 use Rattle.stores.proofs.Stores.{length-apply, word-set-other, apply-same}
 use Rattle.replies.specs.declared.Refusal.{Refusal}
@@ -42,10 +40,7 @@ pub unless-same : {t u : Bool} (r : Refusal) {o p : Option Refusal} → t ≡ u 
 unfolding unless
 unless-same {t} {u} r {o} {p} e h =
     rw (← e)
-    (⊎-elim
-    (λ (k : t ≡ true). rw (k, h k))
-    (λ (k : t ≡ false). rw k)
-    (cases t))
+    (by-test t (λ k. rw (k, h k)) (λ k. rw k))
 
 -- What stands behind tests is the same where the tests are, and where it is the same once they have passed.
 pub behind-same : {X : Type 0} (f : Option Refusal → X → X) → ((r : Refusal) (x y : X) → f (some r) x ≡ f (some r) y)

@@ -1,5 +1,4 @@
 -- The records of an index block by block, and its leaders. The indices behind a leader, inside its block, add none.
--- Assumes nothing.
 use mathlib.Core.Path.{_≡_, sym, ap, _∙_}
 use mathlib.Core.Bool.{true, false}
 use mathlib.Core.List.{List, [], _∷_, _++_}
@@ -12,7 +11,7 @@ use lib.Dec.{ltb, eqb}
 use lib.ListN.{length, length-append}
 use Rattle.stores.specs.Lists.{pick, each}
 use Rattle.stores.proofs.Lists.{each-suc, each-zero, length-each-le}
-use Rattle.stores.proofs.Tests.{cases, and-left, and-right, and-true}
+use Rattle.stores.proofs.Tests.{by-test, and-left, and-right, and-true}
 use Rattle.index_rules.specs.Layout.{depth, maxDepth, segments, entryAt, segmentOf, localDepth, segmentAddress, keyAt}
 use Rattle.index_rules.specs.Keys.{width, blockBits, blockStart, live}
 use Rattle.index_rules.specs.Scan.{leader, leaders, leadersValid, entriesAgree}
@@ -148,11 +147,7 @@ unfolding leads
 leader-at a i h e = and-true (lt-ltb i (2 ^ depth a) h) (eq-eqb (leader a (depth a) i) i e)
 
 pub not-leads : (a : List ℕ) (i : ℕ) → (LeaderAt a i → ⊥) → leads a i ≡ false
-not-leads a i n =
-    ⊎-elim
-    (λ (t : leads a i ≡ true). absurd (n (leads-at a i t)))
-    (λ (t : leads a i ≡ false). t)
-    (cases (leads a i))
+not-leads a i n = by-test (leads a i) (λ t. absurd (n (leads-at a i t))) (λ t. t)
 
 -- In a consistent directory each entry is its block's leader's: an index leads where the width of its own entry's block divides it.
 module _ (a : List ℕ) (v : leadersValid a (depth a) (segments a) ≡ true) (agree : entriesAgree a (depth a) ≡ true) (i : ℕ)

@@ -1,17 +1,16 @@
 -- Directories by their blocks: what a consistent directory is, index by index; that the scan finds these blocks; and what doubling
 -- and halving make of them.
--- Assumes nothing.
 use mathlib.Core.Path.{_≡_, refl, sym, ap, _∙_}
-use mathlib.Core.Bool.{true, false}
+use mathlib.Core.Bool.{true}
 use mathlib.Core.List.{List}
 use mathlib.Core.Logic.{_⊎_, inl, inr, ⊎-elim}
 use Prim.Native.Nat.{ℕ, zero, suc, _+_, _*_, _/_, _%_, _^_, _≤_, _<_}
 use native.Mathlib.Nat.{le-refl, eq-or-lt-of-le, add-mod-right}
 use native.Mathlib.Omega.{arith}
-use borrow.Author.Tests.{eqb-true, eqb-false, eq-eqb, ne-eqb}
+use borrow.Author.Tests.{eq-eqb, ne-eqb}
 use lib.Dec.{eqb}
 use Rattle.stores.specs.Lists.{pick}
-use Rattle.stores.proofs.Tests.{cases, pick-below}
+use Rattle.stores.proofs.Tests.{by-equal, pick-below}
 use Rattle.stores.proofs.Lists.{all-true}
 use Rattle.index_rules.specs.Layout.{entryAt, entry, segmentOf, localDepth}
 use Rattle.index_rules.specs.Keys.{width, blockBits, blockStart}
@@ -117,14 +116,9 @@ module _ (a : List ℕ) (g S : ℕ) (f : ℕ → ℕ) (dir : Blocks g S f)
   blocks-leader (suc i) h =
       let here : leader a g i ≡ first i = blocks-leader i (omega arith) in
       let led : leadingEntry a g i ≡ f i = rw here (first-entry i (omega arith)) in
-      ⊎-elim
-      (λ (t : eqb (suc i % width g (localDepth (f i))) 0 ≡ true).
-      let e : suc i % width g (localDepth (f i)) ≡ 0 = eqb-true _ _ t in
-      leader-new a g i (rw led e) ∙ sym (next-begins i h e))
-      (λ (t : eqb (suc i % width g (localDepth (f i))) 0 ≡ false).
-      let n : suc i % width g (localDepth (f i)) ≡ 0 → ⊥ = eqb-false _ _ t in
-      leader-kept a g i (rw led n) ∙ here ∙ sym (next-within i h n))
-      (cases (eqb (suc i % width g (localDepth (f i))) 0))
+      by-equal (suc i % width g (localDepth (f i))) 0
+      (λ e. leader-new a g i (rw led e) ∙ sym (next-begins i h e))
+      (λ n. leader-kept a g i (rw led n) ∙ here ∙ sym (next-within i h n))
 
   -- The entry that leads index i is f's.
   pub blocks-leading : (i : ℕ) → i < 2 ^ g → leadingEntry a g i ≡ f i
@@ -220,10 +214,7 @@ module _ {g S : ℕ} {f : ℕ → ℕ} (dir : Blocks g S f) (fits : S < 2 ^ 32) 
   pub place : (j : ℕ) → Place g f i n j
   place j =
       let x : ℕ = blockBits g (localDepth (f i)) j in
-      ⊎-elim
-      (λ (t : eqb x (bitsAt g f i) ≡ true). inl (in-block-now j (eqb-true x (bitsAt g f i) t)))
-      (λ (t : eqb x (bitsAt g f i) ≡ false). inr (outside-now j (eqb-false x (bitsAt g f i) t)))
-      (cases (eqb x (bitsAt g f i)))
+      by-equal x (bitsAt g f i) (λ t. inl (in-block-now j t)) (λ t. inr (outside-now j t))
 
   halved-depths : (j : ℕ) → j < 2 ^ g → Place g f i n j → localDepth (halvedDirectory g f i n j) ≤ g
   halved-depths j h (inl p) = rw (p .depth-now) room

@@ -1,6 +1,5 @@
 -- Rows about several calls on one array: the listings of one block joined, a call allowed one store more, a put with another value;
 -- and the test that a row passes.
--- Assumes nothing.
 use Prim.Native.Nat.{ℕ, zero, suc, _+_}
 use native.Mathlib.Nat.{add-zero}
 use native.Mathlib.Omega.{arith}
@@ -8,7 +7,6 @@ use borrow.Author.Tests.{eqb-true}
 use mathlib.Core.Path.{_≡_, refl, ap}
 use mathlib.Core.Bool.{Bool, true, false, false≢true, _&&_}
 use mathlib.Core.List.{List, [], _∷_, List·Memᴰ, List·Memᴰ·head, List·Memᴰ·tail, Memᴰ·cast}
-use mathlib.Core.Logic.{⊎-elim}
 use mathlib.Core.Option.{Option, none, some}
 use lib.Dec.{eqb}
 use lib.ListN.{replicate}
@@ -16,7 +14,7 @@ use Rattle.stores.specs.Lists.{pick, numbersSame, listsSame, ifAny}
 use Rattle.stores.specs.Store.{Store, word}
 use Rattle.stores.specs.Plan.{Outcome}
 use Rattle.stores.specs.Difference.{addressBehind}
-use Rattle.stores.proofs.Tests.{cases, and-left, and-right}
+use Rattle.stores.proofs.Tests.{by-test, and-left, and-right}
 use Rattle.stores.proofs.Lists.{same-lists, same-if-any}
 use Rattle.replies.specs.Replies.{Said, saidSame}
 use Rattle.index_rules.specs.declared.Call.{Call}
@@ -102,18 +100,12 @@ all-differing i [] (w ∷ y) (suc j) other = all-differing (suc i) [] y j (λ m.
 all-differing i (v ∷ x) [] zero other = absurd (other (List·Memᴰ·head (add-zero i)))
 all-differing i (v ∷ x) [] (suc j) other = all-differing (suc i) x [] j (λ m. other (List·Memᴰ·tail (Memᴰ·cast (shift i j) m)))
 all-differing i (v ∷ x) (w ∷ y) zero other =
-    ⊎-elim
-    (λ (e : eqb v w ≡ true). eqb-true v w e)
-    (λ (e : eqb v w ≡ false). absurd (other (rw e (List·Memᴰ·head (add-zero i)))))
-    (cases (eqb v w))
+    by-test (eqb v w) (λ e. eqb-true v w e) (λ e. absurd (other (rw e (List·Memᴰ·head (add-zero i)))))
 all-differing i (v ∷ x) (w ∷ y) (suc j) other =
     all-differing (suc i) x y j
     (λ m.
     other
-    (⊎-elim
-    (λ (e : eqb v w ≡ true). rw e (Memᴰ·cast (shift i j) m))
-    (λ (e : eqb v w ≡ false). rw e (List·Memᴰ·tail (Memᴰ·cast (shift i j) m)))
-    (cases (eqb v w))))
+    (by-test (eqb v w) (λ e. rw e (Memᴰ·cast (shift i j) m)) (λ e. rw e (List·Memᴰ·tail (Memᴰ·cast (shift i j) m)))))
 
 value-apart : (x y : List ℕ) (key i : ℕ) → valueApart x y key (i ∷ []) ≡ true → (valueWord x key ≡ some i) × (valueWord y key ≡ some i)
 unfolding valueApart

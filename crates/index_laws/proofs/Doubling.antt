@@ -1,5 +1,4 @@
 -- What the doubling of the directory leaves, on any array with a valid word 0.
--- Assumes nothing.
 use mathlib.Core.Path.{_≡_, refl, sym, ap, _∙_}
 use mathlib.Core.List.{List, [], _∷_, _++_}
 use Prim.Native.Nat.{ℕ, suc, _/_, _^_, _≤_, _<_}

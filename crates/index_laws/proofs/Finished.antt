@@ -1,20 +1,15 @@
 -- Mending finishes a merge once its first entry is stored, before that leaves it undone, and can be done: on every array with a consistent
 -- directory.
--- Assumes nothing.
 use mathlib.Core.Path.{_≡_, sym, ap, _∙_}
-use mathlib.Core.Bool.{true, false}
 use mathlib.Core.List.{List, _++_}
 use mathlib.Core.Option.{none}
-use mathlib.Core.Logic.{⊎-elim}
 use Prim.Native.Nat.{ℕ, suc, _-_, _^_, _≤_, _<_}
 use native.Mathlib.Nat.{le-refl}
 use native.Mathlib.Omega.{arith}
-use borrow.Author.Tests.{ltb-true, ltb-false}
-use lib.Dec.{ltb}
 use lib.ListN.{length}
 use lib.Pow.{pow-pos}
 use Rattle.stores.specs.Store.{word, apply, exec}
-use Rattle.stores.proofs.Tests.{cases}
+use Rattle.stores.proofs.Tests.{by-less}
 use Rattle.stores.proofs.Stores.{apply-append, length-apply, length-exec, exec-all}
 use Rattle.stores.proofs.Prefixes.{exec-elsewhere, apply-elsewhere}
 use Rattle.replies.proofs.Outcomes.{changed-after, tested-none}
@@ -175,16 +170,13 @@ mending-is-done a key n k c t enough =
     let p = merge-passed a key t in
     let d = consistent-blocks a (depth a) (segments a) (consistent-valid a _ _ c) (consistent-agree a _ _ c) in
     let v = p .tests .valid in
-    ⊎-elim
-    (λ (q : ltb (slotStores a key) n ≡ true).
-    let stored = ltb-true (slotStores a key) n q in
+    by-less (slotStores a key) n
+    (λ stored.
     rw (past-slots d p t n stored)
     (enough-mends (whole-settled d p) (first-stored d p (n - slotStores a key) (omega arith))
     (same-header a _ (whole-word-0 d p) (whole-length d p) v) (ap segmentsIn (whole-word-0 d p)) k enough))
-    (λ (q : ltb (slotStores a key) n ≡ false).
-    let early = ltb-false (slotStores a key) n q in
+    (λ early.
     let s = slots-settled d p n in
     rw (within-slots d p t n early)
     (enough-mends s (toward-itself s)
     (same-header a _ (slots-word-0 d p n) (length-exec (slotsMerged a (index key (depth a)) (keyEntry a key)) n a) v) (ap segmentsIn (slots-word-0 d p n)) k enough))
-    (cases (ltb (slotStores a key) n))

@@ -1,6 +1,5 @@
 -- Refusals for want of space, on any array: a put that refuses with 5 or 6 leaves the key's probe window full of other live keys, in a
 -- segment that can't be split. And a window is sixteen different slots.
--- Assumes nothing.
 use mathlib.Core.Path.{_≡_, sym}
 use mathlib.Core.List.{List, []}
 use mathlib.Core.Logic.{⊎-elim}

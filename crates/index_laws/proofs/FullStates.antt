@@ -1,7 +1,6 @@
 -- Refusals for want of space: rows by the test of the known states, and the statements of specs/Full.antt at such states. antt computes both.
 -- A statement is taken as a hypothesis: this file imports no proof of one. The figures were first worked out by a separate script from
 -- the documents.
--- Assumes nothing.
 use Prim.Native.Nat.{ℕ, _+_, _*_, _%_, _<_}
 use native.Mathlib.Omega.{arith}
 use mathlib.Core.Path.{_≡_, refl, sym}

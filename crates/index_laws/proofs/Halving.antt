@@ -1,5 +1,4 @@
 -- What the copy step and the entry update of a split leave, on any array with a valid word 0 and the key's own entry in range.
--- Assumes nothing.
 use mathlib.Core.Path.{_≡_, refl, sym, ap, _∙_}
 use mathlib.Core.Bool.{Bool, not}
 use mathlib.Core.List.{List, [], _∷_, _++_}

@@ -1,7 +1,6 @@
 -- The statements of `specs/Finished`, `SameListing`, `JoinedListing` and `OneNumber` at small cases: each is taken as a hypothesis, and antt computes
 -- what it asks for. This file imports no proof of a statement: one that holds of nothing, or says nothing, is refused here. Where a
 -- conclusion is a record, samples that it must rule out stand beside it.
--- Assumes nothing.
 use Prim.Native.Nat.{ℕ, zero, suc, _^_}
 use mathlib.Core.Path.{_≡_, refl, sym, ap, _∙_}
 use mathlib.Core.Bool.{true, false}

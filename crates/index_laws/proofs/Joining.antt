@@ -1,6 +1,5 @@
 -- Two halves of a block joined: what a merge makes of a consistent directory, and what stands in it after any number of the stores of its
 -- entries, from left to right.
--- Assumes nothing.
 use mathlib.Core.Path.{_≡_, refl, sym, ap, _∙_}
 use mathlib.Core.Bool.{true, false, not}
 use mathlib.Core.List.{List, [], _∷_}
@@ -8,11 +7,11 @@ use mathlib.Core.Logic.{_⊎_, inl, inr, ⊎-elim}
 use Prim.Native.Nat.{ℕ, suc, _+_, _*_, _-_, _%_, _^_, _≤_, _<_}
 use native.Mathlib.Omega.{arith}
 use borrow.Author.Tests.{eqb-true, eqb-false, eq-eqb, ne-eqb, leb-true, leb-false, lt-ltb, le-ltb, not-true, not-false}
-use lib.Dec.{eqb, leb}
+use lib.Dec.{eqb}
 use lib.ListN.{length}
 use Rattle.stores.specs.Lists.{pick}
 use Rattle.stores.specs.Store.{word, store, apply, exec, Every}
-use Rattle.stores.proofs.Tests.{cases, pick-below}
+use Rattle.stores.proofs.Tests.{by-test, by-equal, by-at-most, pick-below}
 use Rattle.stores.proofs.Lists.{every-each, length-each-ones}
 use Rattle.stores.proofs.Stores.{exec-all}
 use Rattle.stores.proofs.Prefixes.{exec-elsewhere, single-made, single-not-made}
@@ -98,22 +97,21 @@ module _ {g S : ℕ} {f : ℕ → ℕ} (dir : Blocks g S f) (M i : ℕ) (below :
   unfolding buddyStart
   two-halves =
       let inside = buddy-inside g M i halves-room below in
-      ⊎-elim
-      (λ (t : onRight g M i ≡ true).
+      by-test (onRight g M i)
+      (λ t.
       rw t
       (record {
         room = halves-room;
         on-left = λ j h e. one-half (blockStart g M i) j (rw t at inside) h (rw t at other) (e ∙ sym (bits-left g M i halves-room));
         on-right = λ j h e. one-half i j below h own (e ∙ sym (own-right g M i halves-room t));
       }))
-      (λ (t : onRight g M i ≡ false).
+      (λ t.
       rw t
       (record {
         room = halves-room;
         on-left = λ j h e. one-half i j below h own (e ∙ sym (own-left g M i halves-room t));
         on-right = λ j h e. one-half (rightStart g M i) j (rw t at inside) h (rw t at other) (e ∙ sym (bits-right g M i halves-room));
       }))
-      (cases (onRight g M i))
 
 -- Only the entries below 2^g count.
 pub halves-same : {g M : ℕ} {f : ℕ → ℕ} {i left right : ℕ} → TwoHalves g M f i left right → (k : ℕ → ℕ) → ((j : ℕ) → j < 2 ^ g → k j ≡ f j)
@@ -145,10 +143,7 @@ module _ {g M : ℕ} {f : ℕ → ℕ} {i left right : ℕ} (h : TwoHalves g M f
       → (blockBits g (suc M) j ≡ 2 * blockBits g M i) ⊎ (blockBits g (suc M) j ≡ 2 * blockBits g M i + 1)
   in-half j e =
       let q : ℕ = blockBits g (suc M) j in
-      ⊎-elim
-      (λ (t : eqb (q % 2) 0 ≡ true). inl (omega (arith, bits-half g M j (h .room), eqb-true (q % 2) 0 t)))
-      (λ (t : eqb (q % 2) 0 ≡ false). inr (omega (arith, bits-half g M j (h .room), eqb-false (q % 2) 0 t)))
-      (cases (eqb (q % 2) 0))
+      by-equal (q % 2) 0 (λ t. inl (omega (arith, bits-half g M j (h .room), t))) (λ t. inr (omega (arith, bits-half g M j (h .room), t)))
 
   -- An index of a half is in the joined block.
   pub half-in : (j b : ℕ) → b < 2 → blockBits g (suc M) j ≡ 2 * blockBits g M i + b → blockBits g M j ≡ blockBits g M i
@@ -181,17 +176,14 @@ module _ {g M : ℕ} {f : ℕ → ℕ} {i left right : ℕ} (h : TwoHalves g M f
         joined-entries : (k j : ℕ) → k < 2 ^ g → j < 2 ^ g → SameBlock g (joinedDirectory g M f i left) k j
             → joinedDirectory g M f i left j ≡ joinedDirectory g M f i left k
         joined-entries k j hk hj e =
-            ⊎-elim
-            (λ (t : eqb (blockBits g M k) (blockBits g M i) ≡ true).
-            let inside = eqb-true (blockBits g M k) (blockBits g M i) t in
+            by-equal (blockBits g M k) (blockBits g M i)
+            (λ inside.
             let same : blockBits g M j ≡ blockBits g M k = rw (joined-depth k inside) at e in
             joined-in g M f i left j (same ∙ inside) ∙ sym (joined-in g M f i left k inside))
-            (λ (t : eqb (blockBits g M k) (blockBits g M i) ≡ false).
-            let outside = eqb-false (blockBits g M k) (blockBits g M i) t in
+            (λ outside.
             let kept = joined-out g M f i left k outside in
             let before : SameBlock g f k j = rw kept at e in
             joined-out g M f i left j (λ q. outside (reaches-in k j hk hj before q)) ∙ dir .blocks k j hk hj before ∙ sym kept)
-            (cases (eqb (blockBits g M k) (blockBits g M i)))
 
         -- The joined directory is consistent.
         pub joined-blocks : Blocks g S (joinedDirectory g M f i left)
@@ -207,21 +199,16 @@ module _ {g M : ℕ} {f : ℕ → ℕ} {i left right : ℕ} (h : TwoHalves g M f
             by-place : (j : ℕ) (P : ℕ → Type 0) → (blockBits g M j ≡ blockBits g M i → P (entry left M))
                 → ((blockBits g M j ≡ blockBits g M i → ⊥) → P (f j)) → P (joinedDirectory g M f i left j)
             by-place j P inside outside =
-                ⊎-elim
-                (λ (t : eqb (blockBits g M j) (blockBits g M i) ≡ true).
-                let e = eqb-true (blockBits g M j) (blockBits g M i) t in
-                rw (joined-in g M f i left j e) (inside e))
-                (λ (t : eqb (blockBits g M j) (blockBits g M i) ≡ false).
-                let u = eqb-false (blockBits g M j) (blockBits g M i) t in
-                rw (joined-out g M f i left j u) (outside u))
-                (cases (eqb (blockBits g M j) (blockBits g M i)))
+                by-equal (blockBits g M j) (blockBits g M i)
+                (λ e. rw (joined-in g M f i left j e) (inside e))
+                (λ u. rw (joined-out g M f i left j u) (outside u))
 
     -- Halved again, with the segment of the right half, it is the directory before: a merge undoes a split.
     pub halved-again : (j : ℕ) → j < 2 ^ g → halvedDirectory g (joinedDirectory g M f i left) i right j ≡ f j
     unfolding halvedDirectory
     halved-again j k =
-        ⊎-elim
-        (λ (t : eqb (blockBits g M j) (blockBits g M i) ≡ true).
+        by-test (eqb (blockBits g M j) (blockBits g M i))
+        (λ t.
         let e = eqb-true (blockBits g M j) (blockBits g M i) t in
         rw (joined-depth i refl, joined-segment i refl, t)
         (⊎-elim
@@ -230,9 +217,7 @@ module _ {g M : ℕ} {f : ℕ → ℕ} {i left right : ℕ} (h : TwoHalves g M f
         (λ (q : blockBits g (suc M) j ≡ 2 * blockBits g M i + 1).
         rw (eq-eqb (blockBits g (suc M) j % 2) 1 (omega arith)) (sym (h .on-right j k q)))
         (in-half j e)))
-        (λ (t : eqb (blockBits g M j) (blockBits g M i) ≡ false).
-        rw (joined-depth i refl, t) (joined-out g M f i left j (eqb-false (blockBits g M j) (blockBits g M i) t)))
-        (cases (eqb (blockBits g M j) (blockBits g M i)))
+        (λ t. rw (joined-depth i refl, t) (joined-out g M f i left j (eqb-false (blockBits g M j) (blockBits g M i) t)))
 
 -- ---- The stores of the entries
 
@@ -300,30 +285,17 @@ module _ (g M : ℕ) (f : ℕ → ℕ) (i s : ℕ) (a : List ℕ) (t : ℕ) (j :
   pub begins-joined : entryAt a g j ≡ f j → 0 < t → (blockBits g M j ≡ blockBits g M i → blockStart g M i ≡ j)
       → entryAt (exec (joining g M (blockStart g M i) s) t a) g j ≡ joinedDirectory g M f i s j
   begins-joined same some first =
-      ⊎-elim
-      (λ (q : eqb (blockBits g M j) (blockBits g M i) ≡ true).
-      let e = eqb-true (blockBits g M j) (blockBits g M i) q in
-      entry-joined e (omega (arith, first e)))
-      (λ (q : eqb (blockBits g M j) (blockBits g M i) ≡ false).
-      let u = eqb-false (blockBits g M j) (blockBits g M i) q in
-      entry-apart u ∙ same ∙ sym (joined-out g M f i s j u))
-      (cases (eqb (blockBits g M j) (blockBits g M i)))
+      by-equal (blockBits g M j) (blockBits g M i)
+      (λ e. entry-joined e (omega (arith, first e)))
+      (λ u. entry-apart u ∙ same ∙ sym (joined-out g M f i s j u))
 
   pub either-joined : entryAt a g j ≡ f j
       → (entryAt (exec (joining g M (blockStart g M i) s) t a) g j ≡ joinedDirectory g M f i s j)
       ⊎ (entryAt (exec (joining g M (blockStart g M i) s) t a) g j ≡ f j)
   either-joined same =
-      ⊎-elim
-      (λ (q : eqb (blockBits g M j) (blockBits g M i) ≡ true).
-      let e = eqb-true (blockBits g M j) (blockBits g M i) q in
-      ⊎-elim
-      (λ (l : leb (blockStart g M i + t) j ≡ true). inr (entry-behind e (leb-true (blockStart g M i + t) j l) ∙ same))
-      (λ (l : leb (blockStart g M i + t) j ≡ false). inl (entry-joined e (leb-false (blockStart g M i + t) j l)))
-      (cases (leb (blockStart g M i + t) j)))
-      (λ (q : eqb (blockBits g M j) (blockBits g M i) ≡ false).
-      let u = eqb-false (blockBits g M j) (blockBits g M i) q in
-      inr (entry-apart u ∙ same))
-      (cases (eqb (blockBits g M j) (blockBits g M i)))
+      by-equal (blockBits g M j) (blockBits g M i)
+      (λ e. by-at-most (blockStart g M i + t) j (λ l. inr (entry-behind e l ∙ same)) (λ l. inl (entry-joined e l)))
+      (λ u. inr (entry-apart u ∙ same))
 
 -- After all of them every entry of an array that had f's is the joined directory's.
 pub all-joined : (g M : ℕ) (f : ℕ → ℕ) (i s : ℕ) (a : List ℕ) (j : ℕ) → entryAddress g j < length a → entryAt a g j ≡ f j
@@ -331,11 +303,6 @@ pub all-joined : (g M : ℕ) (f : ℕ → ℕ) (i s : ℕ) (a : List ℕ) (j : �
 all-joined g M f i s a j inside same =
     let whole : exec (joining g M (blockStart g M i) s) (width g M) a ≡ apply (joining g M (blockStart g M i) s) a =
     exec-all (joining g M (blockStart g M i) s) (width g M) a (omega (arith, length-joining g M (blockStart g M i) s)) in
-    ⊎-elim
-    (λ (q : eqb (blockBits g M j) (blockBits g M i) ≡ true).
-    let e = eqb-true (blockBits g M j) (blockBits g M i) q in
-    rw (← whole) (entry-joined g M f i s a (width g M) j inside e (block-to g M i j e)))
-    (λ (q : eqb (blockBits g M j) (blockBits g M i) ≡ false).
-    let u = eqb-false (blockBits g M j) (blockBits g M i) q in
-    rw (← whole) (entry-apart g M f i s a (width g M) j inside u ∙ same ∙ sym (joined-out g M f i s j u)))
-    (cases (eqb (blockBits g M j) (blockBits g M i)))
+    by-equal (blockBits g M j) (blockBits g M i)
+    (λ e. rw (← whole) (entry-joined g M f i s a (width g M) j inside e (block-to g M i j e)))
+    (λ u. rw (← whole) (entry-apart g M f i s a (width g M) j inside u ∙ same ∙ sym (joined-out g M f i s j u)))

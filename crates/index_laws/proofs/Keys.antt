@@ -1,7 +1,6 @@
 -- Laws of document 01's 'From a key to its slots' and document 02's wish 4: the folded key, directory bits, index, blocks, live
 -- keys, probe window.
 -- This file alone opens the definitions of `specs/Keys.antt`.
--- Assumes nothing.
 use mathlib.Core.Path.{_≡_, refl, sym, ap, _∙_}
 use mathlib.Core.Bool.{Bool, true, false, not, _&&_, and-false}
 use mathlib.Core.List.{List, [], _∷_, _++_, List·Memᴰ, List·Memᴰ·head, List·Memᴰ·tail, List·Memᴰ·not-nil, List·Memᴰ·append-cases, List·Memᴰ·eq-of-singleton}

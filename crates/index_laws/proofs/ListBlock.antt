@@ -1,6 +1,5 @@
 -- The listing of one block: 128 words are always enough, the answers joined are the full listing, and 1, 3 and 4 come where they come
 -- from list.
--- Assumes nothing.
 use mathlib.Core.Path.{_≡_, refl, sym, ap, _∙_}
 use mathlib.Core.Bool.{Bool, true, false, true≢false, _||_}
 use mathlib.Core.List.{List, [], _∷_, _++_, append-assoc, append-nil}
@@ -14,7 +13,7 @@ use lib.Dec.{ltb, eqb}
 use lib.ListN.{length, take, length-append}
 use lib.Pow.{pow-pos}
 use Rattle.stores.specs.Written.{atFront}
-use Rattle.stores.proofs.Tests.{cases, or-cases}
+use Rattle.stores.proofs.Tests.{by-test, or-cases}
 use Rattle.stores.proofs.Written.{at-front-words, at-front-length}
 use Rattle.replies.specs.declared.Refusal.{Refusal}
 use Rattle.replies.specs.declared.Refusal.the-variants.{NoLeader}
@@ -141,16 +140,15 @@ pub next-not-0 : (a l : List ℕ) (i count j : ℕ) → (step a l (ListBlock i))
 unfolding following
 next-not-0 a l i count j says zero-there =
     let d : Next j ≡ followingLed a i = block-done a l i count (Next j) says .following in
-    ⊎-elim
-    (λ (e : ltb (behindLed a i) (2 ^ depth a) ≡ true).
+    by-test (ltb (behindLed a i) (2 ^ depth a))
+    (λ e.
     let same : Next j ≡ Next (behindLed a i) = d ∙ rw e refl in
     let n : j ≡ behindLed a i = cc in
     omega (arith, width-pos (depth a) (localDepth (entryAt a (depth a) i))))
-    (λ (e : ltb (behindLed a i) (2 ^ depth a) ≡ false).
+    (λ e.
     let same : Next j ≡ Last = d ∙ rw e refl in
     let z : _≡_ {A = ℕ} 0 1 = cc in
     omega arith)
-    (cases (ltb (behindLed a i) (2 ^ depth a)))
 
 -- ---- The answers joined
 
@@ -190,12 +188,9 @@ module _ (a : List ℕ) (v : leadersValid a (depth a) (segments a) ≡ true) (i 
   unfolding following
   follows =
       let t = leads-at a i lead in
-      ⊎-elim
-      (λ (e : ltb (behindLed a i) (2 ^ depth a) ≡ true).
-      inl (rw e refl, leader-at a (behindLed a i) (ltb-true (behindLed a i) (2 ^ depth a) e) (next-own a v i (t .below) (t .own))))
-      (λ (e : ltb (behindLed a i) (2 ^ depth a) ≡ false).
-      inr (rw e refl, le-antisymm (next-inside a v i (t .below) (t .own)) (ltb-false (behindLed a i) (2 ^ depth a) e)))
-      (cases (ltb (behindLed a i) (2 ^ depth a)))
+      by-test (ltb (behindLed a i) (2 ^ depth a))
+      (λ e. inl (rw e refl, leader-at a (behindLed a i) (ltb-true (behindLed a i) (2 ^ depth a) e) (next-own a v i (t .below) (t .own))))
+      (λ e. inr (rw e refl, le-antisymm (next-inside a v i (t .below) (t .own)) (ltb-false (behindLed a i) (2 ^ depth a) e)))
 
 -- From index 0 on they are the full listing.
 listed-full : (a : List ℕ) (parts : List (List ℕ)) → ListedFrom a 0 parts → FullListing a parts

@@ -1,5 +1,4 @@
 -- Records as words, the tests of the listings, and what calls leave in the list array.
--- Assumes nothing.
 use Prim.Native.Nat.{ℕ, _*_, _≤_, _<_}
 use native.Mathlib.Omega.{arith}
 use mathlib.Core.Path.{_≡_, refl, sym, ap, _∙_}

@@ -1,10 +1,8 @@
 -- What a call says, stores and lists depends only on the words that D and S take, and on the array's length.
--- Assumes nothing.
 use mathlib.Core.Path.{_≡_, refl, sym, ap, _∙_}
 use mathlib.Core.Bool.{true, false, not, _&&_}
 use mathlib.Core.List.{List, [], _∷_, _++_}
 use mathlib.Core.Option.{Option, none, some}
-use mathlib.Core.Logic.{⊎-elim}
 use Prim.Native.Nat.{ℕ, suc, _+_, _/_, _^_, _≤_, _<_}
 use native.Mathlib.Omega.{arith}
 use borrow.Author.Tests.{eqb-true, not-true, ltb-true}
@@ -14,7 +12,7 @@ use Rattle.stores.specs.Lists.{pick, each}
 use Rattle.stores.specs.Store.{Store, store, apply, exec}
 use Rattle.stores.specs.Plan.{cut}
 use Rattle.stores.specs.Written.{atFront}
-use Rattle.stores.proofs.Tests.{cases, and-left}
+use Rattle.stores.proofs.Tests.{by-test, and-left}
 use Rattle.stores.proofs.Lists.{each-same, first-same, any-same}
 use Rattle.stores.proofs.Stores.{apply-same}
 use Rattle.replies.specs.declared.Refusal.{Refusal}
@@ -221,10 +219,9 @@ module _ {a b : List ℕ} (s : Agree a b) (v : ValidHeader a) (i : ℕ) where
   leads-same : leads a i ≡ leads b i
   unfolding leads
   leads-same =
-      ⊎-elim
-      (λ (t : ltb i (2 ^ depth a) ≡ true). rw (t, leader-local s (depth a) (v .present) i (ltb-true i (2 ^ depth a) t), ← word-0-same s, t))
-      (λ (t : ltb i (2 ^ depth a) ≡ false). rw (t, ← word-0-same s, t))
-      (cases (ltb i (2 ^ depth a)))
+      by-test (ltb i (2 ^ depth a))
+      (λ t. rw (t, leader-local s (depth a) (v .present) i (ltb-true i (2 ^ depth a) t), ← word-0-same s, t))
+      (λ t. rw (t, ← word-0-same s, t))
 
   module _ (k : leadersValid a (depth a) (segments a) ≡ true) (t : leads a i ≡ true) where
     entry-led-same : entryAt a (depth a) i ≡ entryAt b (depth b) i
@@ -303,11 +300,7 @@ module _ {a b : List ℕ} (s : Agree a b) (v : ValidHeader a) (i e : ℕ) (h : H
 
   has-buddy-same : hasBuddy a i e ≡ hasBuddy b i e
   unfolding hasBuddy
-  has-buddy-same =
-      ⊎-elim
-      (λ (t : eqb (localDepth e) 0 ≡ true). rw t)
-      (λ (t : eqb (localDepth e) 0 ≡ false). rw (buddy-entry-same t))
-      (cases (eqb (localDepth e) 0))
+  has-buddy-same = by-test (eqb (localDepth e) 0) (λ t. rw t) (λ t. rw (buddy-entry-same t))
 
   module _ (buddy : hasBuddy a i e ≡ true) where
     deep-with-buddy : eqb (localDepth e) 0 ≡ false

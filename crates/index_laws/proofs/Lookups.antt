@@ -1,5 +1,4 @@
 -- What a get can say; and a lookup, which is a get of a key but 0.
--- Assumes nothing.
 use Prim.Native.Nat.{ℕ, _<_}
 use mathlib.Core.Path.{_≡_, refl, sym, _∙_}
 use mathlib.Core.Bool.{Bool, true, false, true≢false, not}

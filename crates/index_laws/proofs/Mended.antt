@@ -1,21 +1,17 @@
 -- Mending to completion, on an array that has all words of another one but for entries, and where blocks begin its entries too: it leaves
 -- that other array, whose directory is consistent.
--- Assumes nothing.
 use mathlib.Core.Path.{_≡_, refl, sym, ap, _∙_}
-use mathlib.Core.Bool.{true, false}
 use mathlib.Core.List.{List, [], _∷_, _++_}
 use mathlib.Core.Option.{Option, none, some}
 use mathlib.Core.Logic.{⊎-elim}
 use Prim.Native.Nat.{ℕ, suc, _+_, _-_, _^_, _≤_, _<_}
 use native.Mathlib.Nat.{le-refl}
 use native.Mathlib.Omega.{arith}
-use borrow.Author.Tests.{leb-true, leb-false, ltb-true, ltb-false}
-use lib.Dec.{leb, ltb}
 use lib.ListN.{length}
 use lib.Seq.{ext-getD, take-nil}
 use lib.Pow.{pow-pos}
 use Rattle.stores.specs.Store.{Store, word, apply, exec}
-use Rattle.stores.proofs.Tests.{cases}
+use Rattle.stores.proofs.Tests.{by-less, by-at-most}
 use Rattle.stores.proofs.Stores.{exec-all, exec-append, exec-not-made}
 use Rattle.replies.specs.declared.Refusal.{Refusal}
 use Rattle.replies.specs.Replies.{done, tested, changed}
@@ -73,18 +69,14 @@ mends-keep P keep (n ∷ ns) a h = mends-keep P keep ns ((outcomeOf a (Mend n)) 
 by-word : (g x : ℕ) (P : ℕ → Type 0) → ((DirectoryWord g x → ⊥) → P x) → ((i : ℕ) → i < 2 ^ g → P (entryAddress g i)) → P x
 unfolding entryAddress
 by-word g x P outside inside =
-    ⊎-elim
-    (λ (l : leb (2 ^ g) x ≡ true).
-    ⊎-elim
-    (λ (u : ltb x (2 ^ suc g) ≡ true).
-    let from = leb-true (2 ^ g) x l in
-    let to = ltb-true x (2 ^ suc g) u in
+    by-at-most (2 ^ g) x
+    (λ from.
+    by-less x (2 ^ suc g)
+    (λ to.
     let place : 2 ^ g + (x - 2 ^ g) ≡ x = omega arith in
     rw place at (inside (x - 2 ^ g) (omega arith)))
-    (λ (u : ltb x (2 ^ suc g) ≡ false). outside (λ w. omega (arith, w .to, ltb-false x (2 ^ suc g) u)))
-    (cases (ltb x (2 ^ suc g))))
-    (λ (l : leb (2 ^ g) x ≡ false). outside (λ w. omega (arith, w .from, leb-false (2 ^ g) x l)))
-    (cases (leb (2 ^ g) x))
+    (λ u. outside (λ w. omega (arith, w .to, u))))
+    (λ l. outside (λ w. omega (arith, w .from, l)))
 
 -- Word 0 is no entry.
 pub not-word-0 : (g : ℕ) → DirectoryWord g 0 → ⊥

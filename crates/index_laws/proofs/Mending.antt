@@ -1,10 +1,9 @@
 -- A consistent directory has nothing to mend. And what the stores of a mend leave, any number of them, in an array whose entries are
 -- those of a consistent directory f where f's blocks begin: entries become f's, and all else stays.
--- Assumes nothing.
 use mathlib.Core.Path.{_≡_, refl, ap, _∙_}
 use mathlib.Core.Bool.{Bool, true, false}
 use mathlib.Core.List.{List, [], _∷_, _++_}
-use mathlib.Core.Logic.{_⊎_, inl, inr, ⊎-elim}
+use mathlib.Core.Logic.{_⊎_, inl, inr}
 use Prim.Native.Nat.{ℕ, zero, suc, _-_, _*_, _^_, _≤_, _<_}
 use native.Mathlib.Omega.{arith}
 use borrow.Author.Tests.{eqb-true, eq-eqb}
@@ -12,7 +11,7 @@ use lib.Dec.{eqb}
 use lib.ListN.{length, take}
 use Rattle.stores.specs.Lists.{pick, each}
 use Rattle.stores.specs.Store.{Store, word, store, apply, exec, Every, writes}
-use Rattle.stores.proofs.Tests.{cases}
+use Rattle.stores.proofs.Tests.{by-test}
 use Rattle.stores.proofs.Lists.{each-same, length-each-le, every-each, every-take, every-map, any-true}
 use Rattle.stores.proofs.Stores.{length-apply, word-elsewhere, word-apply, writes-each}
 use Rattle.replies.specs.Replies.{done, unless}
@@ -79,11 +78,7 @@ module _ {g S : ℕ} {f : ℕ → ℕ} {a : List ℕ} (m : Mendable g S f a) whe
   repairs = every-each Repairs repair (2 ^ g) one
     where
       one : (i : ℕ) → i < 2 ^ g → Every Repairs (repair i)
-      one i h =
-          ⊎-elim
-          (λ (t : eqb (entryAt a g i) (f i) ≡ true). rw t Prim.tt)
-          (λ (t : eqb (entryAt a g i) (f i) ≡ false). rw t (repair-here i h, Prim.tt))
-          (cases (eqb (entryAt a g i) (f i)))
+      one i h = by-test (eqb (entryAt a g i) (f i)) (λ t. rw t Prim.tt) (λ t. rw t (repair-here i h, Prim.tt))
 
   entry-place : (i : ℕ) → entryAddress g i - 2 ^ g ≡ i
   unfolding entryAddress
@@ -129,10 +124,9 @@ module _ {g S : ℕ} {f : ℕ → ℕ} {a : List ℕ} (m : Mendable g S f a) whe
   mended-entries i h =
       rw mending-is
       (entry-after (each repair (2 ^ g)) repairs i h
-      ∙ ⊎-elim
-      (λ (t : eqb (entryAt a g i) (f i) ≡ true). same (writes (each repair (2 ^ g)) (entryAddress g i)) (eqb-true _ _ t))
-      (λ (t : eqb (entryAt a g i) (f i) ≡ false). rw (written i h t))
-      (cases (eqb (entryAt a g i) (f i))))
+      ∙ by-test (eqb (entryAt a g i) (f i))
+      (λ t. same (writes (each repair (2 ^ g)) (entryAddress g i)) (eqb-true _ _ t))
+      (λ t. rw (written i h t)))
     where
       same : (b : Bool) → entryAt a g i ≡ f i → pick b (f i) (entryAt a g i) ≡ f i
       same true e = refl

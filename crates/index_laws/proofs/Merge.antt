@@ -1,10 +1,8 @@
 -- What merge's passed tests say of the two halves, where its stores go, and how many they are.
--- Assumes nothing.
 use mathlib.Core.Path.{_≡_, refl, sym, _∙_}
 use mathlib.Core.Bool.{Bool, true, false, not, _&&_}
 use mathlib.Core.List.{List, [], _∷_}
 use mathlib.Core.Option.{Option, none, some}
-use mathlib.Core.Logic.{⊎-elim}
 use Prim.Native.Nat.{ℕ, suc, _+_, _^_, _≤_, _<_}
 use native.Mathlib.Omega.{arith}
 use borrow.Author.Tests.{eqb-true, eqb-false, ne-eqb, not-true}
@@ -13,7 +11,7 @@ use lib.ListN.{length, length-append}
 use lib.Pow.{pow-mono}
 use Rattle.stores.specs.Lists.{pick}
 use Rattle.stores.specs.Store.{Store, store, Every}
-use Rattle.stores.proofs.Tests.{cases, and-left, and-right}
+use Rattle.stores.proofs.Tests.{by-test, and-left, and-right}
 use Rattle.stores.proofs.Lists.{some-none, every-append, every-each, every-map, length-each-le}
 use Rattle.replies.specs.declared.Refusal.{Refusal}
 use Rattle.replies.specs.declared.Refusal.the-variants.{NoStore, NoKey, Broken, Unmended, NoBuddy, BothLive}
@@ -71,19 +69,11 @@ module _ {a : List ℕ} {i e : ℕ} (h : HalvesPlaced a i e) where
     -- Both are segments' numbers.
     pub left-below : segmentOf (leftEntry a i e) < segments a
     unfolding leftEntry
-    left-below =
-        ⊎-elim
-        (λ (t : onRight (depth a) (joinedDepth e) i ≡ true). rw t (h .buddy-below buddy))
-        (λ (t : onRight (depth a) (joinedDepth e) i ≡ false). rw t (h .own-below))
-        (cases (onRight (depth a) (joinedDepth e) i))
+    left-below = by-test (onRight (depth a) (joinedDepth e) i) (λ t. rw t (h .buddy-below buddy)) (λ t. rw t (h .own-below))
 
     pub right-below : segmentOf (rightEntry a i e) < segments a
     unfolding rightEntry
-    right-below =
-        ⊎-elim
-        (λ (t : onRight (depth a) (joinedDepth e) i ≡ true). rw t (h .own-below))
-        (λ (t : onRight (depth a) (joinedDepth e) i ≡ false). rw t (h .buddy-below buddy))
-        (cases (onRight (depth a) (joinedDepth e) i))
+    right-below = by-test (onRight (depth a) (joinedDepth e) i) (λ t. rw t (h .own-below)) (λ t. rw t (h .buddy-below buddy))
 
 -- In a consistent directory.
 module _ (a : List ℕ) (i e : ℕ) (dir : Blocks (depth a) (segments a) (entryAt a (depth a))) (below : i < 2 ^ depth a) (own : e ≡ entryAt a (depth a) i) where

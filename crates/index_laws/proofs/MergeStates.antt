@@ -1,5 +1,4 @@
 -- States of merges (document 02, wish 6), by the test of the known states, which antt computes.
--- Assumes nothing.
 use Prim.Native.Nat.{ℕ, _+_, _*_}
 use mathlib.Core.Path.{_≡_, refl}
 use mathlib.Core.Bool.{true}

@@ -1,19 +1,16 @@
 -- How much one number can change: an allowance larger by one, and a put with another value.
--- Assumes nothing.
 use mathlib.Core.Path.{_≡_, refl, sym, ap, _∙_}
-use mathlib.Core.Bool.{true, false}
+use mathlib.Core.Bool.{false}
 use mathlib.Core.List.{List, [], _∷_, _++_, append-assoc}
 use mathlib.Core.Logic.{_⊎_, inl, inr, ⊎-elim}
 use mathlib.Core.Option.{Option, none, some}
 use Prim.Native.Nat.{ℕ, suc, _-_, _≤_, _<_}
 use native.Mathlib.Omega.{arith}
-use borrow.Author.Tests.{leb-true, leb-false}
-use lib.Dec.{leb}
 use lib.ListN.{length, set, length-set, length-append}
 use Rattle.stores.specs.Store.{Store, word, store, apply, exec}
 use Rattle.stores.specs.Plan.{Plan, _then_, cut}
 use Rattle.stores.specs.Difference.{DifferAt}
-use Rattle.stores.proofs.Tests.{cases}
+use Rattle.stores.proofs.Tests.{by-at-most}
 use Rattle.stores.proofs.Stores.{apply-append, word-set-same}
 use Rattle.stores.proofs.Prefixes.{always-none, always-one}
 use Rattle.stores.proofs.Differences.{one-more, valued, valued-length, value-made, before-value, with-value}
@@ -279,11 +276,7 @@ module _ (key v w n : ℕ) (a : List ℕ) where
         }
 
     stored-or-not : NotStored (changed n (planOf v) a) (changed n (planOf w) a) ⊎ Stored key v w (changed n (planOf v) a) (changed n (planOf w) a)
-    stored-or-not =
-        ⊎-elim
-        (λ (t : leb n (length front) ≡ true). inl (cut-before (leb-true n (length front) t)))
-        (λ (t : leb n (length front) ≡ false). inr (value-stored (leb-false n (length front) t)))
-        (cases (leb n (length front)))
+    stored-or-not = by-at-most n (length front) (λ t. inl (cut-before t)) (λ t. inr (value-stored t))
 
   -- In either case.
   plans-leave : (p q : Plan Said) → Plans key v w a p q

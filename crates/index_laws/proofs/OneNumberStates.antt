@@ -1,5 +1,4 @@
 -- States of calls with one number more or another, by the test of rows about several calls, which antt computes.
--- Assumes nothing.
 use Prim.Native.Nat.{ℕ}
 use mathlib.Core.Path.{_≡_, refl}
 use mathlib.Core.Bool.{true}

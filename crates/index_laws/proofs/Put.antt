@@ -1,5 +1,4 @@
 -- The cases of a put as laws, what its passed tests say, and induction over its splits.
--- Assumes nothing.
 use mathlib.Core.Path.{_≡_, refl, ap, _∙_}
 use mathlib.Core.Bool.{Bool, true, false, not}
 use mathlib.Core.List.{List, [], _∷_}

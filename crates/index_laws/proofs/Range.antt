@@ -1,5 +1,4 @@
 -- No plan stores outside the words that D and S take, on any array; and every call keeps the array's length.
--- Assumes nothing.
 use mathlib.Core.Path.{_≡_, refl}
 use mathlib.Core.Bool.{Bool, true, false, _&&_}
 use mathlib.Core.List.{List, [], _∷_}

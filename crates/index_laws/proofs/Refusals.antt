@@ -1,8 +1,7 @@
 -- Refusals 1 to 4, 8 to 10 and 14 to 16 make no store and change no word, on every array. For put: where its tests pass, they pass again
 -- after a split, so that 1 to 4 are given before the first store or not at all.
--- Assumes nothing.
 use mathlib.Core.Path.{_≡_, refl, sym, ap, _∙_}
-use mathlib.Core.Bool.{true, false}
+use mathlib.Core.Bool.{true}
 use mathlib.Core.List.{List, []}
 use mathlib.Core.Option.{Option, none, some}
 use mathlib.Core.Logic.{_⊎_, inl, inr, ⊎-elim}
@@ -14,7 +13,7 @@ use lib.ListN.{length}
 use Rattle.stores.specs.Store.{apply}
 use Rattle.stores.specs.Plan.{Plan}
 use Rattle.stores.proofs.Lists.{some-none}
-use Rattle.stores.proofs.Tests.{cases}
+use Rattle.stores.proofs.Tests.{by-test}
 use Rattle.stores.proofs.Stores.{apply-append}
 use Rattle.index_rules.specs.Layout.{depthIn, depth, maxDepth, segments, entryAddress, entryAt, localDepth}
 use Rattle.index_rules.specs.Keys.{index}
@@ -103,14 +102,13 @@ module _ (a : List ℕ) (key n : ℕ) (ok : Passed a key) (s : Splittable a key 
   pub dir-ready : Blocks (depth (apply (doublingFor a key) a)) (segments a) (entryAt (apply (doublingFor a key) a) (depth (apply (doublingFor a key) a)))
   unfolding doublingFor apply
   dir-ready =
-      ⊎-elim
-      (λ (t : eqb (localDepth (keyEntry a key)) (depth a) ≡ true).
+      by-test (eqb (localDepth (keyEntry a key)) (depth a))
+      (λ t.
       let room : depth a < maxDepth a = rw (eqb-true (localDepth (keyEntry a key)) (depth a) t) at (s .local-room) in
       let d : Doubled a (apply (doubling a) a) = after-doubling a (s .valid) room in
       rw (t, d .depth-rises)
       (blocks-same (entryAt (apply (doubling a) a) (suc (depth a))) (doubled-blocks dir-before) (d .entries)))
-      (λ (t : eqb (localDepth (keyEntry a key)) (depth a) ≡ false). rw t dir-before)
-      (cases (eqb (localDepth (keyEntry a key)) (depth a)))
+      (λ t. rw t dir-before)
 
   -- After the whole split too.
   dir-after : Blocks (depth (apply (splitting a key n) a)) (segments a) (entryAt (apply (splitting a key n) a) (depth (apply (splitting a key n) a)))

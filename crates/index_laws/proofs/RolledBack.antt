@@ -1,5 +1,4 @@
 -- Mending rolls an unfinished split back and keeps a finished one, on every array with a consistent directory; and it can be done.
--- Assumes nothing.
 use mathlib.Core.Path.{_≡_, refl, sym, ap, _∙_}
 use mathlib.Core.Bool.{Bool, true, false, true≢false}
 use mathlib.Core.List.{List, [], _∷_, _++_}
@@ -8,14 +7,14 @@ use mathlib.Core.Option.{none, some}
 use Prim.Native.Nat.{ℕ, suc, _+_, _-_, _/_, _^_, _≤_, _<_, min}
 use native.Mathlib.Nat.{le-refl}
 use native.Mathlib.Omega.{arith}
-use borrow.Author.Tests.{leb-true, leb-false, ltb-true, ltb-false, eqb-true}
-use lib.Dec.{leb, ltb, eqb}
+use borrow.Author.Tests.{ltb-true, ltb-false, eqb-true}
+use lib.Dec.{ltb, eqb}
 use lib.ListN.{length, length-append}
 use lib.Pow.{pow-pos}
 use Rattle.stores.specs.Lists.{anyBelow}
 use Rattle.stores.specs.Store.{Store, word, store, apply, exec, Every}
 use Rattle.stores.specs.Plan.{Plan}
-use Rattle.stores.proofs.Tests.{cases}
+use Rattle.stores.proofs.Tests.{by-test, by-less, by-at-most}
 use Rattle.stores.proofs.Lists.{some-none, any-true, any-at, any-same}
 use Rattle.stores.proofs.Stores.{length-exec, exec-all}
 use Rattle.stores.proofs.Prefixes.{exec-elsewhere}
@@ -119,14 +118,13 @@ module _ (a : List ℕ) (key n : ℕ) (ok : Passed a key) (s : Splittable a key 
   doubling-front : (k : ℕ) → k < length ds → (x : ℕ) → x < 2 ^ suc (depth a) → word (exec ds k a) x ≡ word a x
   unfolding doublingFor
   doubling-front k early x h =
-      ⊎-elim
-      (λ (t : eqb (localDepth (keyEntry a key)) (depth a) ≡ true).
+      by-test (eqb (localDepth (keyEntry a key)) (depth a))
+      (λ t.
       let last : List Store = store 0 (header (suc (depth a)) (maxDepth a) (segments a)) ∷ [] in
       let most : k ≤ length (doubledEntries a) = omega (arith, rw (t, doubling-parts a, length-append (doubledEntries a) last) at early) in
       rw (t, doubling-parts a, exec-front (doubledEntries a) last k a most)
       (exec-elsewhere (DirectoryWord (suc (depth a))) (doubledEntries a) k a x (doubled-entries a) (λ w. omega (arith, w .from))))
-      (λ (t : eqb (localDepth (keyEntry a key)) (depth a) ≡ false). absurd (omega (arith, rw t at early)))
-      (cases (eqb (localDepth (keyEntry a key)) (depth a)))
+      (λ t. absurd (omega (arith, rw t at early)))
 
   -- ---- Behind it: that of after any doubling.
 
@@ -191,21 +189,20 @@ module _ (a : List ℕ) (key n : ℕ) (ok : Passed a key) (s : Splittable a key 
   -- Before its last store, a split is rolled back.
   rolls : (k : ℕ) → k < length (splitting a key n) → Rolls (doubledWithin k a key) (exec (splitting a key n) (upTo k) a) (exec (splitting a key n) k a)
   rolls k early =
-      ⊎-elim
-      (λ (t : ltb k (length ds) ≡ true).
+      by-test (ltb k (length ds))
+      (λ t.
       let h = ltb-true k (length ds) t in
       let all : upTo k ≡ k = omega (arith, before-entries) in
       rw (t, all, in-doubling k h)
       (front-rolls a (exec ds k a) (s .valid) (consistent-blocks a (depth a) (segments a) (tests-consistent a key (ok .tests) .0) (tests-consistent a key (ok .tests) .1)) (length-exec ds k a)
       (doubling-front k h)))
-      (λ (t : ltb k (length ds) ≡ false).
+      (λ t.
       let h = ltb-false k (length ds) t in
-      ⊎-elim
-      (λ (u : leb k (length ds + length cs) ≡ true).
-      let all : upTo k ≡ k = omega (arith, before-entries, leb-true k (length ds + length cs) u) in
-      rw (t, all, in-copies k h (leb-true k (length ds + length cs) u)) (copies-roll (k - length ds)))
-      (λ (u : leb k (length ds + length cs) ≡ false).
-      let l = leb-false k (length ds + length cs) u in
+      by-at-most k (length ds + length cs)
+      (λ u.
+      let all : upTo k ≡ k = omega (arith, before-entries, u) in
+      rw (t, all, in-copies k h u) (copies-roll (k - length ds)))
+      (λ l.
       let some : upTo k ≡ length ds + length cs = omega (arith, before-entries) in
       let first : exec (splitting a key n) (length ds + length cs) a ≡ apply cs c =
       in-copies (length ds + length cs) (omega arith) (omega arith) ∙ exec-all cs _ c (omega arith) in
@@ -216,9 +213,7 @@ module _ (a : List ℕ) (key n : ℕ) (ok : Passed a key) (s : Splittable a key 
         valid = r .valid;
         number = r .number;
         toward = entries-toward (k - (length ds + length cs)) (omega (arith, split-length));
-      }))
-      (cases (leb k (length ds + length cs))))
-      (cases (ltb k (length ds)))
+      })))
 
 -- ---- The new segment
 
@@ -244,16 +239,14 @@ named-doubled a b d n free = rw (d .depth-rises) (go (anyBelow (λ i. eqb (segme
 found-unnamed : (a : List ℕ) (key n k : ℕ) → Splittable a key n → named a n ≡ false → named (doubledWithin k a key) n ≡ false
 unfolding doublingFor apply
 found-unnamed a key n k s free =
-    ⊎-elim
-    (λ (t : ltb k (length (doublingFor a key)) ≡ true). rw t free)
-    (λ (t : ltb k (length (doublingFor a key)) ≡ false).
-    ⊎-elim
-    (λ (u : eqb (localDepth (keyEntry a key)) (depth a) ≡ true).
+    by-test (ltb k (length (doublingFor a key)))
+    (λ t. rw t free)
+    (λ t.
+    by-test (eqb (localDepth (keyEntry a key)) (depth a))
+    (λ u.
     let room : depth a < maxDepth a = rw (eqb-true (localDepth (keyEntry a key)) (depth a) u) at (s .local-room) in
     rw (t, u) (named-doubled a (apply (doubling a) a) (after-doubling a (s .valid) room) n free))
-    (λ (u : eqb (localDepth (keyEntry a key)) (depth a) ≡ false). rw (t, u) free)
-    (cases (eqb (localDepth (keyEntry a key)) (depth a))))
-    (cases (ltb k (length (doublingFor a key))))
+    (λ u. rw (t, u) free))
 
 -- ---- The put
 
@@ -433,11 +426,9 @@ further : (a : List ℕ) (key n : ℕ) → Splits a key n
     → (m : ℕ) → CutInSplit a key m ⊎ CutBehind a key m
 further a key n s rest m =
     let l : ℕ = length (splitting a key n) in
-    ⊎-elim
-    (λ (t : ltb m (length (splitting a key n)) ≡ true).
-    inl (record { finished = []; new = n; made = Prim.tt; splits = s; from = omega arith; to = omega (arith, ltb-true m (length (splitting a key n)) t) }))
-    (λ (t : ltb m (length (splitting a key n)) ≡ false).
-    let past = ltb-false m (length (splitting a key n)) t in
+    by-less m (length (splitting a key n))
+    (λ t. inl (record { finished = []; new = n; made = Prim.tt; splits = s; from = omega arith; to = omega (arith, t) }))
+    (λ past.
     ⊎-elim
     (λ (c : CutInSplit (apply (splitting a key n) a) key (m - length (splitting a key n))).
     inl
@@ -452,7 +443,6 @@ further a key n s rest m =
     (λ (c : CutBehind (apply (splitting a key n) a) key (m - length (splitting a key n))).
     inr (record { finished = n ∷ c .finished; made = (s, c .made); no-more = c .no-more; from = omega (arith, c .from) }))
     (rest (m - length (splitting a key n))))
-    (cases (ltb m (length (splitting a key n))))
 
 placed : (key value : ℕ) → Cases key value (Placed key)
 unfolding Placed

@@ -1,6 +1,5 @@
 -- Every reply of every call, on every array, is one that the code's enum has: done, done with one value or with what a list of one block
 -- says, absent, or one of the refusals that the documents list for that call.
--- Assumes nothing.
 use Prim.Native.Nat.{ℕ, zero, suc, _<_}
 use mathlib.Core.Path.{_≡_, refl, sym}
 use mathlib.Core.Bool.{Bool, true, false, true≢false, not, _&&_, _||_}

@@ -1,6 +1,5 @@
 -- Further states, by the test of the known states, which antt computes: damaged arrays, cuts, stale records, the slot for a new
 -- key, listings, and what else the sentences of documents 01 and 02 say and the table of known states does not show.
--- Assumes nothing.
 use Prim.Native.Nat.{ℕ, _+_, _*_}
 use mathlib.Core.Path.{_≡_, refl}
 use mathlib.Core.Bool.{Bool, true, false}

@@ -1,6 +1,5 @@
 -- The scan of the directory: as document 01 says it, and by recursion on the index, are the same on every array; and what
 -- holds at each index where the scan finds every leader valid.
--- Assumes nothing.
 use mathlib.Core.Path.{_≡_, refl, sym, ap, _∙_}
 use mathlib.Core.Bool.{Bool, true, false, true≢false}
 use mathlib.Core.List.{List, [], _∷_, _++_, append-assoc, append-nil}
@@ -9,11 +8,11 @@ use mathlib.Core.Logic.{_⊎_, inl, inr, ⊎-elim}
 use Prim.Native.Nat.{ℕ, zero, suc, _+_, _-_, _%_, _^_, _≤_, _<_}
 use native.Mathlib.Nat.{le-refl, zero-add, add-zero, add-suc, add-mod, add-mod-right, mod-eq-of-lt, eq-or-lt-of-le, le-antisymm, not-suc-le-zero}
 use native.Mathlib.Omega.{arith}
-use borrow.Author.Tests.{eqb-true, eqb-false, leb-true, le-leb, ltb-true, ltb-false, lt-ltb, eq-eqb, ne-eqb}
+use borrow.Author.Tests.{eqb-true, leb-true, le-leb, ltb-true, ltb-false, lt-ltb, eq-eqb, ne-eqb}
 use lib.Dec.{leb, ltb, eqb}
 use Rattle.stores.specs.Lists.{pick, each, allBelow}
 use Rattle.stores.proofs.Lists.{each-zero, each-suc, all-at, all-true, ahead, ahead-nil}
-use Rattle.stores.proofs.Tests.{cases, and-left, and-right, and-true}
+use Rattle.stores.proofs.Tests.{by-test, by-equal, by-less, and-left, and-right, and-true}
 use Rattle.index_rules.specs.Layout.{entryAt, segmentOf, localDepth}
 use Rattle.index_rules.specs.Keys.{width, blockStart}
 use Rattle.index_rules.specs.Scan.{inRange, validLeader, ledBy, leadersFrom, nextLeader, leader, leadingEntry, leaders, leadersValid, entriesAgree, consistent}
@@ -70,10 +69,7 @@ leader-cases : (a : List ℕ) (g i : ℕ)
     → (leader a g (suc i) ≡ suc i) ⊎ ((leader a g (suc i) ≡ leader a g i) × (suc i % ledWidth a g (leader a g i) ≡ 0 → ⊥))
 leader-cases a g i =
     let rest : ℕ = suc i % ledWidth a g (leader a g i) in
-    ⊎-elim
-    (λ (t : eqb rest 0 ≡ true). inl (leader-new a g i (eqb-true rest 0 t)))
-    (λ (t : eqb rest 0 ≡ false). inr (leader-kept a g i (eqb-false rest 0 t), eqb-false rest 0 t))
-    (cases (eqb rest 0))
+    by-equal rest 0 (λ t. inl (leader-new a g i t)) (λ t. inr (leader-kept a g i t, t))
 
 pub leader-le : (a : List ℕ) (g i : ℕ) → leader a g i ≤ i
 leader-le a g zero = rw leader-zero (le-refl 0)
@@ -238,10 +234,7 @@ module _ (a : List ℕ) (g S : ℕ) where
   -- At a leader that is not valid.
   at-invalid : (i : ℕ) → i < 2 ^ g → leader a g i ≡ i → validLeader g S i (entryAt a g i) ≡ false → none ≡ scanned
   at-invalid i h own e =
-      ⊎-elim
-      (λ (t : allBelow passes (2 ^ g) ≡ true). absurd (true≢false (sym (all-at passes (2 ^ g) t i h) ∙ rw own e)))
-      (λ (t : allBelow passes (2 ^ g) ≡ false). rw t)
-      (cases (allBelow passes (2 ^ g)))
+      by-test (allBelow passes (2 ^ g)) (λ t. absurd (true≢false (sym (all-at passes (2 ^ g) t i h) ∙ rw own e))) (λ t. rw t)
 
   -- At a valid leader: its block adds it alone, all in the block pass, and the block ends in the directory.
   module _ (i : ℕ) (h : i < 2 ^ g) (own : leader a g i ≡ i) (v : validLeader g S i (entryAt a g i) ≡ true) where
@@ -258,11 +251,7 @@ module _ (a : List ℕ) (g S : ℕ) where
         ∙ ap (λ (l : List ℕ). each adds i ++ l) (adds-leader i own)
 
     block-passes : ((j : ℕ) → j < i → passes j ≡ true) → (j : ℕ) → j < i + ledWidth a g i → passes j ≡ true
-    block-passes before j k =
-        ⊎-elim
-        (λ (t : ltb j i ≡ true). before j (ltb-true j i t))
-        (λ (t : ltb j i ≡ false). rw (led-here j (ltb-false j i t) k) v)
-        (cases (ltb j i))
+    block-passes before j k = by-less j i (λ t. before j t) (λ t. rw (led-here j t k) v)
 
     block-fits : i + ledWidth a g i ≤ 2 ^ g
     block-fits =
@@ -275,20 +264,18 @@ module _ (a : List ℕ) (g S : ℕ) where
   unfolding leadersFrom ahead
   scan-from zero i h own before enough = at-end i (omega arith) before
   scan-from (suc n) i h own before enough =
-      ⊎-elim
-      (λ (t : ltb i (2 ^ g) ≡ true).
+      by-test (ltb i (2 ^ g))
+      (λ t.
       let k : i < 2 ^ g = ltb-true i (2 ^ g) t in
-      ⊎-elim
-      (λ (v : validLeader g S i (entryAt a g i) ≡ true).
+      by-test (validLeader g S i (entryAt a g i))
+      (λ v.
       rw (t, v)
       (ahead-led (each adds i) i (leadersFrom a g S n (i + ledWidth a g i))
       ∙ rw (← block-adds i k own v)
       (scan-from n (i + ledWidth a g i) (block-fits i k own v) (next-leads a g i own (valid-aligned g S i (entryAt a g i) v)) (block-passes i k own v before)
       (omega (arith, width-pos g (localDepth (entryAt a g i)))))))
-      (λ (v : validLeader g S i (entryAt a g i) ≡ false). rw (t, v) (at-invalid i k own v))
-      (cases (validLeader g S i (entryAt a g i))))
-      (λ (t : ltb i (2 ^ g) ≡ false). rw t (at-end i (le-antisymm h (ltb-false i (2 ^ g) t)) before))
-      (cases (ltb i (2 ^ g)))
+      (λ v. rw (t, v) (at-invalid i k own v)))
+      (λ t. rw t (at-end i (le-antisymm h (ltb-false i (2 ^ g) t)) before))
 
 -- On every array, the scan as document 01 says it and the scan by recursion on the index give the same verdict, and the same
 -- leaders where all are valid.

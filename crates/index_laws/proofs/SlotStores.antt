@@ -1,6 +1,5 @@
 -- Stores slot by slot in one segment, as the copy step and a merge make them: those for slot k go to slot k alone, so what stands there
 -- afterwards is what they leave.
--- Assumes nothing.
 use mathlib.Core.Path.{_≡_, ap, _∙_}
 use mathlib.Core.List.{List, [], _∷_}
 use mathlib.Core.Logic.{⊎-elim}

@@ -1,6 +1,5 @@
 -- Laws of the slots that the calls look for: the first hit, the slot for a new key, the choice of a put. But for the computed rows,
 -- this file alone opens the slot for a new key: the proofs above use that it is in the window and not live.
--- Assumes nothing.
 use mathlib.Core.Path.{_≡_, refl, sym, ap, ap₂, _∙_}
 use mathlib.Core.Bool.{true, false, not}
 use mathlib.Core.List.{List, List·Memᴰ}
@@ -13,7 +12,7 @@ use borrow.Author.Tests.{eqb-true, eqb-false, not-true, not-false}
 use lib.Dec.{eqb}
 use lib.ListN.{length, set}
 use Rattle.stores.specs.Lists.{firstIn}
-use Rattle.stores.proofs.Tests.{cases, and-right}
+use Rattle.stores.proofs.Tests.{by-equal, and-right}
 use Rattle.stores.proofs.Lists.{first-same, first-some, first-none}
 use Rattle.stores.proofs.Stores.{word-set-same, word-set-other}
 use Rattle.index_rules.specs.Layout.{keyAddress, valueAddress, keyAt, valueAt}
@@ -197,11 +196,7 @@ key-after-key a base j x k d = word-set-other a (keyAddress base j) (keyAddress 
 -- A key that the window did not have, stored into slot j: no other slot of the window has it,
 pub only-after-key : (a : List ℕ) (base key j : ℕ) → ((k : ℕ) → List·Memᴰ k (window key) → keyAt a base k ≡ key → ⊥)
     → (k : ℕ) → List·Memᴰ k (window key) → keyAt (set a (keyAddress base j) key) base k ≡ key → k ≡ j
-only-after-key a base key j missing k m e =
-    ⊎-elim
-    (λ (t : eqb k j ≡ true). eqb-true k j t)
-    (λ (t : eqb k j ≡ false). absurd (missing k m (sym (key-after-key a base j key k (eqb-false k j t)) ∙ e)))
-    (cases (eqb k j))
+only-after-key a base key j missing k m e = by-equal k j (λ t. t) (λ t. absurd (missing k m (sym (key-after-key a base j key k t) ∙ e)))
 
 -- and the search finds it there.
 pub hit-after-key : (a : List ℕ) (base key j : ℕ) → keyAddress base j < length a → List·Memᴰ j (window key) → hit a base key ≡ none

@@ -1,9 +1,7 @@
 -- What the stores of a split leave, on any array with a valid word 0 and the key's own entry in range.
--- Assumes nothing.
 use mathlib.Core.Path.{_≡_, refl, ap, _∙_}
 use mathlib.Core.Bool.{true, false}
 use mathlib.Core.List.{List, []}
-use mathlib.Core.Logic.{⊎-elim}
 use Prim.Native.Nat.{ℕ, suc, _^_, _≤_, _<_}
 use native.Mathlib.Omega.{arith}
 use borrow.Author.Tests.{eqb-true, eqb-false}
@@ -14,7 +12,7 @@ use Rattle.stores.specs.Lists.{pick}
 use Rattle.stores.specs.Store.{word, apply, Every}
 use Rattle.stores.proofs.Lists.{every-append}
 use Rattle.stores.proofs.Stores.{apply-append}
-use Rattle.stores.proofs.Tests.{cases, pick-below}
+use Rattle.stores.proofs.Tests.{by-test, pick-below}
 use Rattle.index_rules.specs.Layout.{depthIn, maxDepthIn, segmentsIn, depth, maxDepth, segments, wordsFor, entry, segmentOf, localDepth}
 use Rattle.index_rules.specs.Keys.{bit}
 use Rattle.index_rules.specs.Get.{keyEntry}
@@ -89,17 +87,15 @@ module _ (a : List ℕ) (key : ℕ) (v : ValidHeader a)
   pub ready : Ready a key (apply (doublingFor a key) a)
   unfolding apply
   ready =
-      ⊎-elim
-      (λ (t : eqb (localDepth (keyEntry a key)) (depth a) ≡ true). rw (doubling-at t) (ready-doubled t))
-      (λ (t : eqb (localDepth (keyEntry a key)) (depth a) ≡ false). rw (doubling-not t) (ready-same t))
-      (cases (eqb (localDepth (keyEntry a key)) (depth a)))
+      by-test (eqb (localDepth (keyEntry a key)) (depth a))
+      (λ t. rw (doubling-at t) (ready-doubled t))
+      (λ t. rw (doubling-not t) (ready-same t))
 
   pub doublingFor-in-range : Every (λ s. s .at < wordsFor (maxDepth a) (segments a)) (doublingFor a key)
   doublingFor-in-range =
-      ⊎-elim
-      (λ (t : eqb (localDepth (keyEntry a key)) (depth a) ≡ true). rw (doubling-at t) (doubling-in-range a (depth-room t)))
-      (λ (t : eqb (localDepth (keyEntry a key)) (depth a) ≡ false). rw (doubling-not t) Prim.tt)
-      (cases (eqb (localDepth (keyEntry a key)) (depth a)))
+      by-test (eqb (localDepth (keyEntry a key)) (depth a))
+      (λ t. rw (doubling-at t) (doubling-in-range a (depth-room t)))
+      (λ t. rw (doubling-not t) Prim.tt)
 
 -- What a split leaves.
 pub record AfterSplit (a : List ℕ) (key n : ℕ) (b : List ℕ) : Type 0 where

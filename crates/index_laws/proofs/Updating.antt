@@ -1,9 +1,8 @@
 -- The entry update of a split, from right to left: what stands in the directory after any number of its stores.
--- Assumes nothing.
 use mathlib.Core.Path.{_≡_, refl, sym, ap, _∙_}
 use mathlib.Core.Bool.{Bool, true, false, not}
 use mathlib.Core.List.{List, [], _∷_}
-use mathlib.Core.Logic.{inl, inr, ⊎-elim}
+use mathlib.Core.Logic.{inl, inr}
 use Prim.Native.Nat.{ℕ, suc, _+_, _*_, _-_, _/_, _%_, _^_, _≤_, _<_}
 use native.Mathlib.Omega.{arith}
 use borrow.Author.Tests.{eqb-true, eqb-false, ltb-true, ltb-false, lt-ltb, le-ltb, eq-eqb}
@@ -11,7 +10,7 @@ use lib.Dec.{eqb, ltb}
 use lib.ListN.{length}
 use Rattle.stores.specs.Lists.{pick}
 use Rattle.stores.specs.Store.{Store, word, store, apply, exec, Every}
-use Rattle.stores.proofs.Tests.{cases, pick-not}
+use Rattle.stores.proofs.Tests.{by-test, by-equal, pick-not}
 use Rattle.stores.proofs.Lists.{every-each, length-each-ones}
 use Rattle.stores.proofs.Stores.{exec-all}
 use Rattle.stores.proofs.Prefixes.{exec-elsewhere, single-made, single-not-made}
@@ -45,16 +44,15 @@ module _ (g L i j : ℕ) (e : blockBits g L j ≡ blockBits g L i) where
       let start : blockStart g L i ≡ w * (2 * blockBits g L i) = blockStart-bits g L i ∙ rw twice (omega arith) in
       let low : w * q ≤ j = rw (blockStart-bits g (suc L) j) at (blockStart-le g (suc L) j) in
       let high : j < w * q + w = rw (blockStart-bits g (suc L) j) at (in-block g (suc L) j) in
-      ⊎-elim
-      (λ (t : eqb (q % 2) 1 ≡ true).
+      by-test (eqb (q % 2) 1)
+      (λ t.
       let odd : q ≡ 2 * blockBits g L i + 1 = omega (arith, eqb-true (q % 2) 1 t) in
       let past : w * (2 * blockBits g L i + 1) ≤ j = rw odd at low in
       rw t (le-ltb j (blockStart g L i + w) (omega (arith, start, past))))
-      (λ (t : eqb (q % 2) 1 ≡ false).
+      (λ t.
       let even : q ≡ 2 * blockBits g L i = omega (arith, eqb-false (q % 2) 1 t) in
       let before : j < w * (2 * blockBits g L i) + w = rw even at high in
       rw t (lt-ltb j (blockStart g L i + w) (omega (arith, start, before))))
-      (cases (eqb (q % 2) 1))
 
 -- ---- The stores
 
@@ -89,14 +87,13 @@ module _ (g L start s n : ℕ) where
   half-entry j l lo hi =
       let half : width g L ≡ 2 * width g (suc L) = width-half g L l in
       let t : ℕ = turn g L start j in
-      ⊎-elim
-      (λ (e : ltb j (start + width g (suc L)) ≡ true).
+      by-test (ltb j (start + width g (suc L)))
+      (λ e.
       let o : ltb t (width g (suc L)) ≡ false = le-ltb t (width g (suc L)) (omega (arith, ltb-true j (start + width g (suc L)) e)) in
       rw (o, e))
-      (λ (e : ltb j (start + width g (suc L)) ≡ false).
+      (λ e.
       let o : ltb t (width g (suc L)) ≡ true = lt-ltb t (width g (suc L)) (omega (arith, ltb-false j (start + width g (suc L)) e)) in
       rw (o, e))
-      (cases (ltb j (start + width g (suc L))))
 
   -- After t of the stores, entry j of the block is stored or not; other words stay.
   module _ (a : List ℕ) (t : ℕ) where
@@ -173,13 +170,11 @@ module _ (g : ℕ) (f : ℕ → ℕ) (i n : ℕ) (room : localDepth (f i) < g) (
       → (j : ℕ) → j < 2 ^ g → blockStart g (localDepth (f j)) j ≡ j → entryAt (exec (updates g f i n) t a) g j ≡ entryAt a g j
   leaders-not-made dir below early j h first =
       let L : ℕ = localDepth (f i) in
-      ⊎-elim
-      (λ (e : eqb (blockBits g L j) (bitsAt g f i) ≡ true).
-      let same : SameBlock g f i j = eqb-true (blockBits g L j) (bitsAt g f i) e in
+      by-equal (blockBits g L j) (bitsAt g f i)
+      (λ same.
       let own : blockStart g L j ≡ j = rw (dir .blocks i j below h same) at first in
       entry-not-made j same (omega (arith, same-start g L i j same)))
-      (λ (e : eqb (blockBits g L j) (bitsAt g f i) ≡ false). entry-outside j (eqb-false (blockBits g L j) (bitsAt g f i) e))
-      (cases (eqb (blockBits g L j) (bitsAt g f i)))
+      (λ e. entry-outside j e)
 
 -- After the last store, every entry of an array that had f's is the halved directory's.
 pub all-made : (g : ℕ) (f : ℕ → ℕ) (i n : ℕ) → localDepth (f i) < g → (a : List ℕ) (j : ℕ) → entryAddress g j < length a → entryAt a g j ≡ f j

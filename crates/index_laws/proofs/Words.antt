@@ -1,5 +1,4 @@
 -- Laws of the layout: what a valid word 0 says, what is packed in word 0 and in an entry, and that addresses do not overlap.
--- Assumes nothing.
 use mathlib.Core.Path.{_≡_}
 use mathlib.Core.Bool.{true, _&&_}
 use mathlib.Core.List.{List}

@@ -1,5 +1,4 @@
 -- Rows of both tables with one wrong figure each, in every part of the tests, which antt computes: none passes.
--- Assumes nothing.
 use mathlib.Core.Path.{_≡_, refl}
 use mathlib.Core.Bool.{Bool, true, not, _&&_}
 use mathlib.Core.List.{List, [], _∷_}

@@ -1,5 +1,4 @@
 -- Document 02, wish 6: mending finishes a merge once its first entry is stored, and before that leaves it undone.
--- Assumes nothing.
 use Prim.Native.Nat.{ℕ, _^_, _≤_, _<_}
 use mathlib.Core.Path.{_≡_}
 use mathlib.Core.Bool.{true}

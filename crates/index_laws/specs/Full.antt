@@ -1,5 +1,4 @@
 -- The bureau's letter, demand 2: a put is refused for want of space only where the window is full and the segment can't be split.
--- Assumes nothing.
 use Prim.Native.Nat.{ℕ, _<_}
 use mathlib.Core.Path.{_≡_}
 use mathlib.Core.Bool.{true}

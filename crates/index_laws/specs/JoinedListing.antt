@@ -1,6 +1,5 @@
 -- Document 02, wish 7: a list array of 128 words is always enough for a block; joined from index 0 on, over one untouched index, the
 -- answers are the full listing; and the two calls give 1, 3 and 4 on the same arrays.
--- Assumes nothing.
 use Prim.Native.Nat.{ℕ, zero, suc, _*_, _^_, _≤_}
 use mathlib.Core.Path.{_≡_}
 use mathlib.Core.Bool.{true, false}

@@ -1,5 +1,4 @@
 -- Demand 1: the words that a call can touch and look at, refusals that change nothing, and the most stores of a merge.
--- Assumes nothing.
 use Prim.Native.Nat.{ℕ, _+_, _^_, _≤_, _<_}
 use mathlib.Core.Path.{_≡_}
 use mathlib.Core.List.{List, []}

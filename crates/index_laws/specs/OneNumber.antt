@@ -1,6 +1,5 @@
 -- Document 02, wish 5: how much one number can change. Support compares what two calls leave of one array, that differ in one number
 -- alone: the allowance, or the value of a put.
--- Assumes nothing.
 use Prim.Native.Nat.{ℕ, suc}
 use mathlib.Core.Path.{_≡_}
 use mathlib.Core.Bool.{false}

@@ -1,5 +1,4 @@
 -- Document 01, behind the steps of a split: 'So an unfinished split is rolled back by mending.' A finished one stays.
--- Assumes nothing.
 use Prim.Native.Nat.{ℕ, _+_, _-_, _^_, _≤_, _<_, min}
 use mathlib.Core.Path.{_≡_}
 use mathlib.Core.Bool.{true, false}

@@ -1,5 +1,4 @@
 -- Document 02, wish 3: two listings of one untouched index are equal, word for word.
--- Assumes nothing.
 use Prim.Native.Nat.{ℕ, _*_}
 use mathlib.Core.Path.{_≡_}
 use mathlib.Core.List.{List, [], _∷_}

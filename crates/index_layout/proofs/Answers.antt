@@ -1,5 +1,4 @@
 -- What each answer of the layout's functions tells its caller.
--- Assumes nothing.
 use mathlib.Core.Path.{_≡_, refl}
 use mathlib.Core.Bool.{Bool, true, false}
 use mathlib.Core.List.{List, [], _∷_}

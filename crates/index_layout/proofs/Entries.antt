@@ -1,5 +1,4 @@
 -- What the reader of an entry is to say, and where the entries of the present directory stand.
--- Assumes nothing.
 use mathlib.Core.Path.{_≡_, ap, _∙_}
 use mathlib.Core.Bool.{true, false}
 use mathlib.Core.List.{List, [], _∷_}

@@ -1,5 +1,4 @@
 -- Where segments stand: they fit in an array with a valid word 0; and a key's place.
--- Assumes nothing.
 use mathlib.Core.Path.{_≡_, refl, sym, _∙_}
 use mathlib.Core.Bool.{true}
 use mathlib.Core.List.{List}

@@ -1,5 +1,4 @@
 -- The definitions of `specs/` on small cases, which antt computes.
--- Assumes nothing.
 use mathlib.Core.Path.{_≡_, refl}
 use mathlib.Core.List.{List, [], _∷_}
 use lib.ListN.{replicate}

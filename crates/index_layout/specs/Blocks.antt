@@ -1,5 +1,4 @@
 -- The keys of a block.
--- Assumes nothing.
 use Prim.Native.Nat.{ℕ}
 use Rattle.index_rules.specs.Keys.{firstBits}
 use Rattle.index_layout.specs.declared.key.Block.{Block}

@@ -1,5 +1,4 @@
 -- What the reader of an entry answers.
--- Assumes nothing.
 use Prim.Native.Nat.{ℕ}
 use mathlib.Core.List.{List, [], _∷_}
 use Rattle.stores.specs.Lists.{pick}

@@ -1,5 +1,4 @@
 -- What the reader of word 0 answers, and what a header that was read says of its array.
--- Assumes nothing.
 use Prim.Native.Nat.{ℕ}
 use mathlib.Core.Path.{_≡_}
 use mathlib.Core.Bool.{true}

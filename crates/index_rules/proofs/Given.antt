@@ -1,7 +1,6 @@
 -- Document 01's table of refusals by its rows, and those that document 02 adds: which of format, get, put, remove, merge, mend, list and list of one
 -- block give each number. antt computes them from the definition, which goes by the calls. 11 to 13 are the board's, and 17 to 20
 -- those of later wishes: no call of the index gives them.
--- Assumes nothing.
 use Prim.Native.Nat.{ℕ}
 use mathlib.Core.Path.{_≡_, refl}
 use mathlib.Core.Bool.{Bool, true, false}

@@ -1,6 +1,5 @@
 -- One small row for each definition that an edit of the gate changes and no known state sees, by the test of the known states, which
 -- antt computes; and what rows about damaged arrays are made of.
--- Assumes nothing.
 use Prim.Native.Nat.{ℕ, _+_, _*_}
 use mathlib.Core.Path.{_≡_, refl}
 use mathlib.Core.Bool.{true}

@@ -1,6 +1,5 @@
 -- Document 01, 'Known index states', a to j, those with word 0 and with key 1031 as document 02's wish 4 makes them: one table, one
 -- test, one proof. antt computes the test of each row.
--- Assumes nothing.
 use Prim.Native.Nat.{ℕ, _+_, _*_}
 use mathlib.Core.Path.{_≡_, refl}
 use mathlib.Core.Bool.{true}

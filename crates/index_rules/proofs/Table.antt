@@ -1,5 +1,4 @@
 -- A table of facts about the definitions, as data, and the test that a row passes.
--- Assumes nothing.
 use Prim.Native.Nat.{ℕ, suc}
 use borrow.Author.Tests.{eqb-true}
 use mathlib.Core.Path.{_≡_}

@@ -1,5 +1,4 @@
 -- Document 01, 'The calls and their stores': format.
--- Assumes nothing.
 use Prim.Native.Nat.{ℕ}
 use mathlib.Core.List.{List, [], _∷_, _++_}
 use mathlib.Core.Option.{Option, none}

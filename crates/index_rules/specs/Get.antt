@@ -1,5 +1,4 @@
 -- Document 01, 'The calls and their stores': get, which makes no store.
--- Assumes nothing.
 use Prim.Native.Nat.{ℕ}
 use mathlib.Core.Path.{_≡_}
 use mathlib.Core.Bool.{not}

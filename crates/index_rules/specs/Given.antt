@@ -1,5 +1,4 @@
 -- Document 01, 'Replies that say no', last column, with what document 02 adds: which call can give which refusal.
--- Assumes nothing.
 use Prim.Native.Nat.{ℕ}
 use mathlib.Core.Bool.{Bool, false, _||_}
 use mathlib.Core.List.{List, [], _∷_}

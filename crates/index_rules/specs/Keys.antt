@@ -1,7 +1,6 @@
 -- Document 01, 'From a key to its slots', and document 02, wish 4: the folded key, bucket, directory bits, live and stale, probe
 -- window.
 -- Of the laws, those of `proofs/Keys.antt` alone open these definitions; computed rows open them too.
--- Assumes nothing.
 use Prim.Native.Nat.{ℕ, zero, suc, _+_, _*_, _-_, _/_, _%_, _^_}
 use mathlib.Core.Bool.{Bool, not, _&&_}
 use mathlib.Core.List.{List, [], _∷_}

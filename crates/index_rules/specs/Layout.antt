@@ -1,5 +1,4 @@
 -- Document 01, 'The array of words': where each thing stands in the array that the caller lends.
--- Assumes nothing.
 use Prim.Native.Nat.{ℕ, suc, _+_, _*_, _/_, _%_, _^_}
 use mathlib.Core.Bool.{Bool, _&&_}
 use mathlib.Core.List.{List}

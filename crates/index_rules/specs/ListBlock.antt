@@ -1,5 +1,4 @@
 -- Document 02, wish 7: the listing of one block, by the directory index of its leader.
--- Assumes nothing.
 use Prim.Native.Nat.{ℕ, _+_, _^_}
 use mathlib.Core.Bool.{Bool, _&&_}
 use mathlib.Core.List.{List}

@@ -1,5 +1,4 @@
 -- Document 01, 'The calls and their stores': list, which makes no store in the index; and its order, document 02, wish 3.
--- Assumes nothing.
 use Prim.Native.Nat.{ℕ, _*_, _^_}
 use mathlib.Core.List.{List, [], _∷_}
 use mathlib.Core.Option.{Option, none}

@@ -1,6 +1,5 @@
 -- Document 02, wish 6: merge. A block and its buddy, the other half of the block one depth shallower, become that one block. The left
 -- half's segment, the document's a, takes what is live in the right half's, b, and b comes free.
--- Assumes nothing.
 use Prim.Native.Nat.{ℕ, suc, _+_, _*_, _-_}
 use mathlib.Core.Bool.{Bool, not, _&&_}
 use mathlib.Core.List.{List, [], _∷_, _++_}

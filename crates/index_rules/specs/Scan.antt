@@ -1,5 +1,4 @@
 -- Document 01, 'The walk': the scan of the directory of depth g over its blocks.
--- Assumes nothing.
 use Prim.Native.Nat.{ℕ, zero, suc, _+_, _%_, _^_}
 use mathlib.Core.Bool.{Bool, _&&_}
 use mathlib.Core.List.{List, [], _∷_}

@@ -1,5 +1,4 @@
 -- What the calls look for: the first slot with a key, the slot for a put, a free segment.
--- Assumes nothing.
 use Prim.Native.Nat.{ℕ, _^_}
 use mathlib.Core.Bool.{Bool, not, _&&_}
 use mathlib.Core.List.{List, [], _∷_}

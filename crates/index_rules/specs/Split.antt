@@ -1,5 +1,4 @@
 -- Document 01, 'The calls and their stores': the stores of a split, steps 2 to 4.
--- Assumes nothing.
 use Prim.Native.Nat.{ℕ, suc, _+_, _-_, _/_, _^_}
 use mathlib.Core.Bool.{Bool, _&&_}
 use mathlib.Core.List.{List, [], _∷_, _++_}

@@ -1,5 +1,4 @@
 -- One call as data, what it says and leaves in both lent arrays, and a call that was performed.
--- Assumes nothing.
 use Prim.Native.Nat.{ℕ}
 use mathlib.Core.Path.{_≡_}
 use mathlib.Core.Bool.{Bool, true, false}

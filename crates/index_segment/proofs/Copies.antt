@@ -1,15 +1,13 @@
 -- The stores of the copy step for one slot.
--- Assumes nothing.
 use Prim.Native.Nat.{ℕ, _+_, _*_, _≤_}
 use native.Mathlib.Nat.{zero-add}
 use native.Mathlib.Omega.{arith}
 use mathlib.Core.Path.{_≡_}
 use mathlib.Core.Bool.{true, false}
 use mathlib.Core.List.{List, [], _∷_}
-use mathlib.Core.Logic.{⊎-elim}
 use lib.ListN.{length}
 use Rattle.stores.specs.Store.{store}
-use Rattle.stores.proofs.Tests.{cases}
+use Rattle.stores.proofs.Tests.{by-test}
 use Rattle.index_rules.specs.Split.{moves, copySlot}
 use Rattle.index_segment.specs.Slot.{SlotHolds}
 use Rattle.index_segment.specs.declared.Held.{Held}
@@ -26,6 +24,4 @@ module _ (a : List ℕ) (L bits j : ℕ) (h : Held) where
 
 pub copy-short : (a : List ℕ) (L bits j : ℕ) → length (copySlot a 0 0 L bits j) ≤ 2
 unfolding copySlot
-copy-short a L bits j =
-    ⊎-elim (λ (t : moves a 0 L bits j ≡ true). rw t (omega arith)) (λ (t : moves a 0 L bits j ≡ false). rw t (omega arith))
-    (cases (moves a 0 L bits j))
+copy-short a L bits j = by-test (moves a 0 L bits j) (λ t. rw t (omega arith)) (λ t. rw t (omega arith))

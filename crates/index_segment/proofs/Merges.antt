@@ -1,5 +1,4 @@
 -- The stores of a merge for one slot, by what it holds on both sides; and the search for a slot that is live on both.
--- Assumes nothing.
 use Prim.Native.Nat.{ℕ, suc, _+_, _*_, _<_}
 use native.Mathlib.Nat.{zero-add}
 use mathlib.Core.Path.{_≡_, refl}

@@ -1,5 +1,4 @@
 -- Live records slot by slot, and their words.
--- Assumes nothing.
 use Prim.Native.Nat.{ℕ, zero, suc, _+_, _≤_, _<_}
 use native.Mathlib.Nat.{add-zero, eq-or-lt-of-le, le-of-suc-le-suc, not-suc-le-zero}
 use native.Mathlib.Numerals.{add-one}
@@ -11,7 +10,7 @@ use mathlib.Core.Logic.{⊎-elim}
 use lib.ListN.{length, set, length-append}
 use Rattle.stores.specs.Lists.{each}
 use Rattle.stores.proofs.Lists.{each-zero, each-suc}
-use Rattle.stores.proofs.Tests.{cases}
+use Rattle.stores.proofs.Tests.{by-test}
 use Rattle.index_rules.specs.Layout.{keyAt, valueAt}
 use Rattle.index_rules.specs.Keys.{live}
 use Rattle.index_rules.specs.Listing.{Record, liveRecord, wordsOf}
@@ -56,10 +55,9 @@ module _ (a : List ℕ) (L bits : ℕ) where
   pub count-small : (n : ℕ) → length (recordsBelow a L bits n) ≤ n
   count-small zero = rw records-none (omega arith)
   count-small (suc n) =
-      ⊎-elim
-      (λ (t : live L bits (keyAt a 0 n) ≡ true). rw (← add-one n) (omega (arith, count-small n, count-live n t)))
-      (λ (t : live L bits (keyAt a 0 n) ≡ false). rw (← add-one n) (omega (arith, count-small n, count-stale n t)))
-      (cases (live L bits (keyAt a 0 n)))
+      by-test (live L bits (keyAt a 0 n))
+      (λ t. rw (← add-one n) (omega (arith, count-small n, count-live n t)))
+      (λ t. rw (← add-one n) (omega (arith, count-small n, count-stale n t)))
 
   -- A live slot below n counts among the records below n.
   pub count-room : (j n : ℕ) → j < n → live L bits (keyAt a 0 j) ≡ true

@@ -1,5 +1,4 @@
 -- The words of a slot, in a segment that is lent as a part.
--- Assumes nothing.
 use Prim.Native.Nat.{ℕ, _+_, _*_}
 use native.Mathlib.Nat.{zero-add}
 use mathlib.Core.Path.{_≡_, ap}

@@ -1,5 +1,4 @@
 -- What a search and a choice of a slot answer, by cases.
--- Assumes nothing.
 use Prim.Native.Nat.{ℕ}
 use mathlib.Core.Option.{Option, none, some}
 use Rattle.index_rules.specs.Slots.{found, into, full}

@@ -1,5 +1,4 @@
 -- A bucket of a segment, and the search through its four slots.
--- Assumes nothing.
 use Prim.Native.Nat.{ℕ, _+_, _*_}
 use mathlib.Core.Path.{_≡_}
 use mathlib.Core.Bool.{Bool, not}

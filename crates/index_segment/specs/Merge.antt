@@ -1,5 +1,4 @@
 -- What the slots of a merge ask and store, by what a slot holds on both sides.
--- Assumes nothing.
 use Prim.Native.Nat.{ℕ}
 use mathlib.Core.Bool.{Bool, _&&_}
 use mathlib.Core.List.{List}

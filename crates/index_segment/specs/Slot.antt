@@ -1,5 +1,4 @@
 -- A segment as a part of the array, and a slot of it.
--- Assumes nothing.
 use Prim.Native.Nat.{ℕ}
 use mathlib.Core.Path.{_≡_}
 use mathlib.Core.List.{List}

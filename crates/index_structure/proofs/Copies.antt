@@ -1,5 +1,4 @@
 -- Stores in a segment that is lent as a part of the array, and the copy step from a segment read as a value.
--- Assumes nothing.
 use mathlib.Core.Path.{_≡_, refl, sym, ap, ap₂, _∙_}
 use mathlib.Core.Bool.{Bool, true, false, _&&_}
 use mathlib.Core.List.{List, [], _∷_, _++_}

@@ -1,5 +1,4 @@
 -- What the code of a merge asks and leaves: its slots in a segment lent as a part, and all its stores by a key's pair.
--- Assumes nothing.
 use mathlib.Core.Path.{_≡_, refl, sym, ap, _∙_}
 use mathlib.Core.Bool.{Bool, true, false, not, _&&_}
 use mathlib.Core.List.{List, [], _∷_, _++_}

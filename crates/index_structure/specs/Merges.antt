@@ -1,5 +1,4 @@
 -- What a merge of a key's block and its buddy asks of its caller, and answers; and the stores of its slots.
--- Assumes nothing.
 use Prim.Native.Nat.{ℕ, _+_, _-_, _≤_, _<_}
 use mathlib.Core.Path.{_≡_}
 use mathlib.Core.Bool.{Bool, true, false}

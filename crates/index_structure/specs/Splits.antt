@@ -1,5 +1,4 @@
 -- What a split of a key's segment asks of its caller, and answers; and the stores of its steps 3 and 4.
--- Assumes nothing.
 use Prim.Native.Nat.{ℕ, _+_, _≤_, _<_}
 use mathlib.Core.Path.{_≡_}
 use mathlib.Core.List.{List, _++_}

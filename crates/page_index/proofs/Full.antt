@@ -1,5 +1,4 @@
 -- A C function that tells 5 or 6 of a put leaves the key's probe window full, in a segment that can't be split.
--- Assumes nothing.
 use mathlib.Core.Path.{_≡_, sym, ap, _∙_}
 use mathlib.Core.List.{List, []}
 use Prim.Native.Nat.{ℕ, _<_}

@@ -1,6 +1,5 @@
 -- Codes 5 and 6, and the statements of specs/Full.antt at these. antt computes both. A statement is taken as a hypothesis: this file imports no
 -- proof of one. The figures were first worked out by a separate script from the documents.
--- Assumes nothing.
 use Prim.Native.Nat.{ℕ, _+_, _*_, _<_}
 use native.Mathlib.Omega.{arith}
 use mathlib.Core.Path.{_≡_, refl, sym}

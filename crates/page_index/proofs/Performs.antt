@@ -1,6 +1,5 @@
 -- The promise of each C function of the index, and of each of the board's on one job, is a performed call. So a chain of C calls is
 -- a chain of performed calls, and the history rule over those (`performed-history-rule` of `index_history`) speaks of it.
--- Assumes nothing.
 use Prim.Native.Nat.{ℕ}
 use mathlib.Core.Path.{_≡_, refl, sym, ap, _∙_}
 use mathlib.Core.Bool.{Bool, false}

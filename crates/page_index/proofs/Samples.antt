@@ -1,5 +1,4 @@
 -- What C is told of each kind of reply, which antt computes from the definitions.
--- Assumes nothing.
 use Prim.Native.Nat.{ℕ}
 use mathlib.Core.Path.{_≡_, refl}
 use mathlib.Core.List.{List, [], _∷_}

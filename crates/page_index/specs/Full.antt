@@ -1,6 +1,5 @@
 -- The bureau's letter, demand 2, over the C functions: the codes 5 and 6 of a put, and of the board's set, are told only where the window is
 -- full and the segment can't be split.
--- Assumes nothing.
 use Prim.Native.Nat.{ℕ}
 use mathlib.Core.Path.{_≡_}
 use mathlib.Core.List.{List}

@@ -1,18 +1,14 @@
 -- What a call that changes the array says and leaves, by whether it is cut off; and plans behind tests.
--- Assumes nothing.
 use mathlib.Core.Path.{_≡_, refl, ap}
-use mathlib.Core.Bool.{true, false}
 use mathlib.Core.List.{List}
 use mathlib.Core.Option.{Option, none, some}
-use mathlib.Core.Logic.{_⊎_, inl, inr, ⊎-elim}
+use mathlib.Core.Logic.{_⊎_, inl, inr}
 use Prim.Native.Nat.{ℕ, _≤_, _<_}
 use native.Mathlib.Omega.{arith}
-use borrow.Author.Tests.{leb-true, leb-false}
-use lib.Dec.{leb}
 use lib.ListN.{length}
 use Rattle.stores.specs.Store.{apply, exec}
 use Rattle.stores.specs.Plan.{Plan, Outcome, reply-only, cut}
-use Rattle.stores.proofs.Tests.{cases}
+use Rattle.stores.proofs.Tests.{by-at-most}
 use Rattle.stores.proofs.Plans.{cut-whole, cut-short}
 use Rattle.replies.specs.declared.Refusal.{Refusal}
 use Rattle.replies.specs.declared.Refusal.the-variants.{CutOff}
@@ -62,11 +58,7 @@ module _ (n : ℕ) (p : Plan Said) (a : List ℕ) where
 
   -- One of the two.
   pub changed-cases : Complete p a (changed n p a) ⊎ CutShort n p a (changed n p a)
-  changed-cases =
-      ⊎-elim
-      (λ (t : leb (length (p .due)) n ≡ true). inl (changed-complete (leb-true _ _ t)))
-      (λ (t : leb (length (p .due)) n ≡ false). inr (changed-cut (leb-false _ _ t)))
-      (cases (leb (length (p .due)) n))
+  changed-cases = by-at-most (length (p .due)) n (λ t. inl (changed-complete t)) (λ t. inr (changed-cut t))
 
 -- ---- Replies
 

@@ -1,5 +1,4 @@
 -- Replies that the tests find to be the same are.
--- Assumes nothing.
 use Prim.Native.Nat.{ℕ}
 use mathlib.Core.Path.{_≡_, refl, ap, ap₂}
 use mathlib.Core.Bool.{true, false≢true}

@@ -1,6 +1,5 @@
 -- The numbers of the refusals, what counts as done and as damage, which replies are the same, calls cut off, and writings behind tests.
 -- antt computes each from the definitions.
--- Assumes nothing.
 use Prim.Native.Nat.{ℕ}
 use mathlib.Core.Path.{_≡_, refl}
 use mathlib.Core.Bool.{Bool, true, false, not, _&&_}

@@ -1,6 +1,5 @@
 -- Replies that the code's enum has: done, done with one value, done with the records of one block and what follows, absent, or a refusal
 -- that the call can give.
--- Assumes nothing.
 use Prim.Native.Nat.{ℕ}
 use mathlib.Core.Path.{_≡_, refl, sym, ap, _∙_}
 use mathlib.Core.Bool.{Bool, true, false, true≢false}

@@ -1,5 +1,4 @@
 -- A writing behind tests: whether they have passed, and what it writes.
--- Assumes nothing.
 use Prim.Native.Nat.{ℕ, _≤_}
 use native.Mathlib.Omega.{arith}
 use mathlib.Core.Path.{_≡_, refl, sym, _∙_}

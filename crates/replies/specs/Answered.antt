@@ -1,5 +1,4 @@
 -- What the code has answered and left, against what a definition says and leaves.
--- Assumes nothing.
 use Prim.Native.Nat.{ℕ}
 use mathlib.Core.Path.{_≡_}
 use mathlib.Core.List.{List}

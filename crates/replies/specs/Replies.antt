@@ -1,5 +1,4 @@
 -- Document 01, 'Replies that say no': what the code's answers mean in its numbers, tests in its order, and calls cut off.
--- Assumes nothing.
 use Prim.Native.Nat.{ℕ}
 use mathlib.Core.Bool.{Bool, true, false, _&&_, _||_}
 use mathlib.Core.List.{List, [], _∷_}

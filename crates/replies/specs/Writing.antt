@@ -1,5 +1,4 @@
 -- A call that leaves the array as it is and writes to the front of another lent one: a list its words, a print its bytes.
--- Assumes nothing.
 use Prim.Native.Nat.{ℕ}
 use mathlib.Core.List.{List, []}
 use mathlib.Core.Option.{Option, none, some}

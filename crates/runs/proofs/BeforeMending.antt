@@ -1,5 +1,4 @@
 -- Lookups before mending: mends may come at every point of a run, and tell the map nothing.
--- Assumes nothing.
 use Prim.Native.Nat.{ℕ}
 use mathlib.Core.Path.{_≡_, refl, sym, ap, _∙_}
 use mathlib.Core.Bool.{Bool, true, false≢true}

@@ -1,12 +1,11 @@
 -- What the claims say of a run and of mends, the computed tests find; and what the tests find of the keys that are asked for, the claims say.
--- Assumes nothing.
 use Prim.Native.Nat.{ℕ}
 use mathlib.Core.Path.{_≡_, refl}
-use mathlib.Core.Bool.{Bool, true, false, not}
+use mathlib.Core.Bool.{Bool, true, not}
 use mathlib.Core.List.{List, [], _∷_, List·Memᴰ, List·Memᴰ·not-nil, List·Memᴰ·cases-cons}
 use mathlib.Core.Logic.{⊎-elim}
 use borrow.Author.Tests.{eq-eqb}
-use Rattle.stores.proofs.Tests.{cases, and-left, and-right, and-true, or-right}
+use Rattle.stores.proofs.Tests.{by-test, and-left, and-right, and-true, or-right}
 use Rattle.stores.specs.Lists.{numbersSame}
 use Rattle.replies.specs.declared.Following.{Following}
 use Rattle.replies.specs.declared.Following.the-variants.{Next, Last}
@@ -36,11 +35,7 @@ said-same (refused n) = eq-eqb n n refl
 
 -- Where both say the same of a claimed key, the test of it passes.
 same-checked : (key : ℕ) (s t : Said) → (claimed key ≡ true → s ≡ t) → sameOf key s t ≡ true
-same-checked key s t h =
-    ⊎-elim
-    (λ (c : claimed key ≡ true). or-right (not (claimed key)) (rw (h c) (said-same t)))
-    (λ (c : claimed key ≡ false). rw c)
-    (cases (claimed key))
+same-checked key s t h = by-test (claimed key) (λ c. or-right (not (claimed key)) (rw (h c) (said-same t))) (λ c. rw c)
 
 -- A get of a claimed key that says what the map says passes its test.
 get-checked : (key : ℕ) (said : Said) (m : Map) → (claimed key ≡ true → said ≡ mapSays (m key)) → getAgrees (gets key) said m ≡ true

@@ -1,5 +1,4 @@
 -- Mends that antt computes from the definitions, of the store of Samples.antt. This file imports no proof.
--- Assumes nothing.
 use Prim.Native.Nat.{ℕ}
 use mathlib.Core.Path.{_≡_, refl}
 use mathlib.Core.Bool.{Bool, true, false, not, _&&_, _||_}

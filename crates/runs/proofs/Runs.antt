@@ -1,5 +1,4 @@
 -- The one induction over the runs of a store that has an invariant, and what follows from it.
--- Assumes nothing.
 use Prim.Native.Nat.{ℕ}
 use mathlib.Core.Path.{_≡_, refl, sym, ap, _∙_}
 use mathlib.Core.Bool.{true}

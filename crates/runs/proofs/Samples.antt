@@ -1,6 +1,5 @@
 -- Runs that antt computes from the definitions, of a store that has no code: each call carries what it has said and the array
 -- that it has left, and a lookup of key k says word k, or absent where that is 0. This file imports no proof.
--- Assumes nothing.
 use Prim.Native.Nat.{ℕ}
 use mathlib.Core.Path.{_≡_, refl}
 use mathlib.Core.Bool.{Bool, true, false, false≢true, not, _&&_, _||_}

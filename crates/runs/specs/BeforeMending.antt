@@ -1,5 +1,4 @@
 -- Document 02, wish 9: a lookup before mending gives the same answer as after mending to completion.
--- Assumes nothing.
 use Prim.Native.Nat.{ℕ}
 use mathlib.Core.Path.{_≡_}
 use mathlib.Core.Bool.{Bool, true, false, _&&_}

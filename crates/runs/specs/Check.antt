@@ -1,5 +1,4 @@
 -- The claims about a run and about mends as tests that compute, for the keys of a list. `lookup` is what a get of a key says.
--- Assumes nothing.
 use Prim.Native.Nat.{ℕ}
 use mathlib.Core.Bool.{Bool, true, not, _&&_, _||_}
 use mathlib.Core.List.{List, [], _∷_}

@@ -1,5 +1,4 @@
 -- Document 01, 'The plain table': the abstract map, and what it is told of each call.
--- Assumes nothing.
 use Prim.Native.Nat.{ℕ}
 use mathlib.Core.Bool.{Bool, true, false}
 use mathlib.Core.List.{[], _∷_}

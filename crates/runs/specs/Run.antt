@@ -1,5 +1,4 @@
 -- Document 01, 'The history rule': a run of calls, and the claim about it, over any store of words.
--- Assumes nothing.
 use Prim.Native.Nat.{ℕ}
 use mathlib.Core.Path.{_≡_}
 use mathlib.Core.Bool.{Bool, true, false, not, _&&_, _||_}

@@ -1,5 +1,4 @@
 -- Laws of the joined list, of the first element that passes, of tests over all numbers below a bound, and of numbers in front of others.
--- Assumes nothing.
 use mathlib.Core.Path.{_≡_, refl, sym, ap, ap₂, _∙_}
 use mathlib.Core.Bool.{Bool, true, false, _&&_, _||_, false≢true}
 use mathlib.Core.List.{List, [], _∷_, _++_, append-assoc, List·Memᴰ, List·Memᴰ·head, List·Memᴰ·tail, List·Memᴰ·not-nil, List·Memᴰ·append-cases, Memᴰ·append-left, Memᴰ·append-right}
@@ -13,7 +12,7 @@ use lib.Dec.{eqb}
 use lib.ListN.{length, take, length-append}
 use Rattle.stores.specs.Lists.{pick, each, firstIn, allBelow, anyBelow, numbersSame, listsSame, ifAny}
 use Rattle.stores.specs.Store.{Store, Every}
-use Rattle.stores.proofs.Tests.{cases, and-left, and-right, and-true, or-cases, or-left, or-right}
+use Rattle.stores.proofs.Tests.{by-test, and-left, and-right, and-true, or-cases, or-left, or-right}
 
 -- ---- The joined list
 
@@ -121,34 +120,31 @@ some-none x f = let z : _≡_ {A = ℕ} 0 1 = cc in omega arith
 pub first-append : (p : ℕ → Bool) (xs ys : List ℕ) → firstIn p xs ≡ none → firstIn p (xs ++ ys) ≡ firstIn p ys
 first-append p [] ys e = refl
 first-append p (x ∷ xs) ys e =
-    ⊎-elim
-    (λ (t : p x ≡ true). absurd (some-none x (sym (first-here p x xs t) ∙ e)))
-    (λ (t : p x ≡ false). first-next p x (xs ++ ys) t ∙ first-append p xs ys (sym (first-next p x xs t) ∙ e))
-    (cases (p x))
+    by-test (p x)
+    (λ t. absurd (some-none x (sym (first-here p x xs t) ∙ e)))
+    (λ t. first-next p x (xs ++ ys) t ∙ first-append p xs ys (sym (first-next p x xs t) ∙ e))
 
 -- Something in front passes: the search ends there.
 pub first-append-some : (p : ℕ → Bool) (xs ys : List ℕ) (y : ℕ) → firstIn p xs ≡ some y → firstIn p (xs ++ ys) ≡ some y
 unfolding firstIn
 first-append-some p [] ys y e = absurd (some-none y (sym e))
 first-append-some p (x ∷ xs) ys y e =
-    ⊎-elim
-    (λ (t : p x ≡ true). first-here p x (xs ++ ys) t ∙ sym (first-here p x xs t) ∙ e)
-    (λ (t : p x ≡ false). first-next p x (xs ++ ys) t ∙ first-append-some p xs ys y (sym (first-next p x xs t) ∙ e))
-    (cases (p x))
+    by-test (p x)
+    (λ t. first-here p x (xs ++ ys) t ∙ sym (first-here p x xs t) ∙ e)
+    (λ t. first-next p x (xs ++ ys) t ∙ first-append-some p xs ys y (sym (first-next p x xs t) ∙ e))
 
 -- What is found is an element of the list, and passes.
 pub first-some : (p : ℕ → Bool) (xs : List ℕ) (y : ℕ) → firstIn p xs ≡ some y → List·Memᴰ y xs × (p y ≡ true)
 unfolding firstIn
 first-some p [] y e = absurd (some-none y (sym e))
 first-some p (x ∷ xs) y e =
-    ⊎-elim
-    (λ (t : p x ≡ true).
+    by-test (p x)
+    (λ t.
     let q : x ≡ y = some-inj x y (sym (first-here p x xs t) ∙ e) in
     (List·Memᴰ·head (sym q), rw q at t))
-    (λ (t : p x ≡ false).
+    (λ t.
     let r = first-some p xs y (sym (first-next p x xs t) ∙ e) in
     (List·Memᴰ·tail (r .0), r .1))
-    (cases (p x))
   where
     some-inj : (u v : ℕ) → some u ≡ some v → u ≡ v
     some-inj u v f = cc
@@ -156,15 +152,9 @@ first-some p (x ∷ xs) y e =
 -- Where nothing is found, no element passes.
 pub first-none : (p : ℕ → Bool) (xs : List ℕ) → firstIn p xs ≡ none → (y : ℕ) → List·Memᴰ y xs → p y ≡ false
 first-none p xs e y (List·Memᴰ·head {x = x} {xs = ys} q) =
-    ⊎-elim
-    (λ (t : p x ≡ true). absurd (some-none x (sym (first-here p x ys t) ∙ e)))
-    (λ (t : p x ≡ false). rw q t)
-    (cases (p x))
+    by-test (p x) (λ t. absurd (some-none x (sym (first-here p x ys t) ∙ e))) (λ t. rw q t)
 first-none p xs e y (List·Memᴰ·tail {x = x} {xs = ys} m) =
-    ⊎-elim
-    (λ (t : p x ≡ true). absurd (some-none x (sym (first-here p x ys t) ∙ e)))
-    (λ (t : p x ≡ false). first-none p ys (sym (first-next p x ys t) ∙ e) y m)
-    (cases (p x))
+    by-test (p x) (λ t. absurd (some-none x (sym (first-here p x ys t) ∙ e))) (λ t. first-none p ys (sym (first-next p x ys t) ∙ e) y m)
 
 -- ---- Tests below a bound
 

@@ -1,5 +1,4 @@
 -- Loops that store: how the promise grows turn by turn, and what is read between the stores.
--- Assumes nothing.
 use mathlib.Core.Path.{_≡_}
 use mathlib.Core.List.{List}
 use Prim.Native.Nat.{ℕ, _+_, _-_}

@@ -1,5 +1,4 @@
 -- A plan under an allowance: what is said, how many stores are made, and what is left.
--- Assumes nothing.
 use mathlib.Core.Path.{_≡_, refl}
 use mathlib.Core.List.{List}
 use Prim.Native.Nat.{ℕ, _≤_, _<_}

@@ -1,19 +1,14 @@
 -- What holds after every number of stores, and what is read after a prefix of them.
--- Assumes nothing.
 use mathlib.Core.Path.{_≡_, sym, ap, _∙_}
-use mathlib.Core.Bool.{true, false}
 use mathlib.Core.List.{List, [], _∷_, _++_, append-nil}
-use mathlib.Core.Logic.{⊎-elim}
 use Prim.Native.Nat.{ℕ, zero, suc, _-_, _≤_, _<_, min}
 use native.Mathlib.Nat.{le-refl, le-step, min-eq-left, min-eq-right}
 use native.Mathlib.Omega.{arith}
-use borrow.Author.Tests.{leb-true, leb-false}
-use lib.Dec.{leb}
 use lib.ListN.{length, take}
 use lib.Seq.{take-all, take-nil}
 use Rattle.stores.specs.Lists.{each}
 use Rattle.stores.specs.Store.{Store, word, store, apply, exec, Every}
-use Rattle.stores.proofs.Tests.{cases}
+use Rattle.stores.proofs.Tests.{by-at-most}
 use Rattle.stores.proofs.Lists.{each-zero, each-suc, length-each-ones, every-take, every-each, every-map}
 use Rattle.stores.proofs.Stores.{exec-all, exec-none, exec-not-made, take-append, exec-append, word-elsewhere, read-each}
 
@@ -29,12 +24,9 @@ module _ (P : List ℕ → Type 0) where
 
   pub always-append : (ss tt : List Store) (a : List ℕ) → Always P ss a → Always P tt (apply ss a) → Always P (ss ++ tt) a
   always-append ss tt a h k n =
-      ⊎-elim
-      (λ (l : leb n (length ss) ≡ true).
-      rw (exec-append ss tt n a, exec-not-made tt (n - length ss) (exec ss n a) (omega (arith, leb-true n (length ss) l))) (h n))
-      (λ (l : leb n (length ss) ≡ false).
-      rw (exec-append ss tt n a, exec-all ss n a (omega (arith, leb-false n (length ss) l))) (k (n - length ss)))
-      (cases (leb n (length ss)))
+      by-at-most n (length ss)
+      (λ l. rw (exec-append ss tt n a, exec-not-made tt (n - length ss) (exec ss n a) (omega (arith, l))) (h n))
+      (λ l. rw (exec-append ss tt n a, exec-all ss n a (omega (arith, l))) (k (n - length ss)))
 
   -- No store.
   pub always-none : (a : List ℕ) → P a → Always P [] a
@@ -75,17 +67,14 @@ take-each f (suc w) n =
     let parts : take n (each one (suc w)) ≡ take n (each one w) ++ take (n - w) (one w) =
     ap (take n) (each-suc one w) ∙ rw front at (take-append (each one w) (one w) n) in
     parts
-    ∙ ⊎-elim
-    (λ (t : leb n w ≡ true).
-    let l : n ≤ w = leb-true n w t in
+    ∙ by-at-most n w
+    (λ l.
     let none : n - w ≡ 0 = omega arith in
     rw (none, take-each f w n, min-eq-left l, min-eq-left (le-step l)) (append-nil (each one n)))
-    (λ (t : leb n w ≡ false).
-    let l : w < n = leb-false n w t in
+    (λ l.
     rw
     (take-all (n - w) (one w) (omega arith), take-all n (each one w) (rw front (omega arith)), min-eq-right {n = suc w} {m = n} l)
     (sym (each-suc one w)))
-    (cases (leb n w))
 
 -- Single stores at different addresses, of which the first n are made: what is read at store k's address.
 module _ (at value : ℕ → ℕ) (w n : ℕ) (a : List ℕ) (apart : (i j : ℕ) → i < j → j < w → at i ≡ at j → ⊥) (k : ℕ) (h : k < w) where

@@ -1,6 +1,5 @@
 -- A plan of three stores on an array of three words, under each allowance, where the next store goes, stores in a part, and words in
 -- front, and lists told apart: tables that antt computes from the definitions.
--- Assumes nothing.
 use Prim.Native.Nat.{ℕ}
 use mathlib.Core.Path.{_≡_, refl}
 use mathlib.Core.Bool.{Bool, true, false}

@@ -1,5 +1,4 @@
 -- What stores leave: by append and by prefix, lengths, and reads after stores.
--- Assumes nothing.
 use mathlib.Core.Path.{_≡_, refl, sym, ap, _∙_}
 use mathlib.Core.Bool.{Bool, true, false, _||_}
 use mathlib.Core.List.{List, [], _∷_, _++_}
@@ -15,7 +14,7 @@ use Rattle.stores.specs.Lists.{pick, each, anyBelow}
 use Rattle.stores.specs.Store.{Store, store, word, apply, exec, Every, writes}
 use Rattle.stores.specs.Executed.{Executed}
 use Rattle.stores.proofs.Lists.{each-suc}
-use Rattle.stores.proofs.Tests.{cases}
+use Rattle.stores.proofs.Tests.{by-test, by-equal}
 
 pub apply-append : (ss tt : List Store) (a : List ℕ) → apply (ss ++ tt) a ≡ apply tt (apply ss a)
 unfolding apply
@@ -91,12 +90,9 @@ unfolding apply
 word-keeps P [] a i b h k = h
 word-keeps P (s ∷ ss) a i b h k =
     word-keeps P ss (set a (s .at) (s .value)) i (rw length-set b)
-    (⊎-elim
-    (λ (t : eqb (s .at) i ≡ true).
-    let e : s .at ≡ i = eqb-true (s .at) i t in
-    rw (e, word-set-same a i (s .value) b) (k .0 e))
-    (λ (t : eqb (s .at) i ≡ false). rw (word-set-other a (s .at) i (s .value) (λ e. eqb-false (s .at) i t (sym e))) h)
-    (cases (eqb (s .at) i)))
+    (by-equal (s .at) i
+    (λ e. rw (e, word-set-same a i (s .value) b) (k .0 e))
+    (λ t. rw (word-set-other a (s .at) i (s .value) (λ e. t (sym e))) h))
     (k .1)
 
 -- A word that no store writes is as it was.
@@ -113,14 +109,12 @@ unfolding apply writes
 word-apply M [] a h i b = refl
 word-apply M (s ∷ ss) a h i b =
     word-apply M ss (set a (s .at) (s .value)) (h .1) i (rw length-set b)
-    ∙ ⊎-elim
-    (λ (t : eqb (s .at) i ≡ true).
+    ∙ by-test (eqb (s .at) i)
+    (λ t.
     let e : s .at ≡ i = eqb-true (s .at) i t in
     let v : word (set a (s .at) (s .value)) i ≡ M i = rw e (word-set-same a i (s .value) b ∙ h .0 ∙ ap M e) in
     rw (t, v) (same (writes ss i) (M i)))
-    (λ (t : eqb (s .at) i ≡ false).
-    rw (t, word-set-other a (s .at) i (s .value) (λ e. eqb-false (s .at) i t (sym e))))
-    (cases (eqb (s .at) i))
+    (λ t. rw (t, word-set-other a (s .at) i (s .value) (λ e. eqb-false (s .at) i t (sym e))))
   where
     same : (b : Bool) (x : ℕ) → pick b x x ≡ x
     same true x = refl

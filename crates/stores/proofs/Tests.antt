@@ -1,15 +1,31 @@
 -- Tests that are true or false: which parts of them hold, and how they are split by cases.
--- Assumes nothing.
 use mathlib.Core.Path.{_≡_, refl, sym}
 use mathlib.Core.Bool.{Bool, true, false, not, _&&_, _||_, false≢true}
 use mathlib.Core.Logic.{_⊎_, inl, inr}
-use Prim.Native.Nat.{ℕ, _<_}
+use Prim.Native.Nat.{ℕ, _<_, _≤_}
+use borrow.Author.Tests.{eqb-true, eqb-false, leb-true, leb-false, ltb-true, ltb-false}
+use lib.Dec.{eqb, leb, ltb}
 use Rattle.stores.specs.Lists.{pick}
 
 -- A test is true or false, with the equation.
 pub cases : (b : Bool) → (b ≡ true) ⊎ (b ≡ false)
 cases true = inl refl
 cases false = inr refl
+
+-- What holds where a test is true and where it is false holds.
+pub by-test : {A : Type 0} (b : Bool) → (b ≡ true → A) → (b ≡ false → A) → A
+by-test true f g = f refl
+by-test false f g = g refl
+
+-- The same of the three tests of numbers, each case with what it says of them.
+pub by-equal : {A : Type 0} (m n : ℕ) → (m ≡ n → A) → ((m ≡ n → ⊥) → A) → A
+by-equal m n f g = by-test (eqb m n) (λ t. f (eqb-true m n t)) (λ t. g (eqb-false m n t))
+
+pub by-at-most : {A : Type 0} (m n : ℕ) → (m ≤ n → A) → (n < m → A) → A
+by-at-most m n f g = by-test (leb m n) (λ t. f (leb-true m n t)) (λ t. g (leb-false m n t))
+
+pub by-less : {A : Type 0} (m n : ℕ) → (m < n → A) → (n ≤ m → A) → A
+by-less m n f g = by-test (ltb m n) (λ t. f (ltb-true m n t)) (λ t. g (ltb-false m n t))
 
 pub and-left : (a b : Bool) → a && b ≡ true → a ≡ true
 and-left true b e = refl

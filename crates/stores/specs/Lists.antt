@@ -1,5 +1,4 @@
 -- Choices, lists and tests over a range of numbers, as the definitions of plans use them.
--- Assumes nothing.
 use Prim.Native.Nat.{ℕ, zero, suc}
 use mathlib.Core.Bool.{Bool, true, false, _&&_, _||_}
 use mathlib.Core.List.{List, [], _∷_, _++_}

@@ -1,5 +1,4 @@
 -- A plan, and what is left of it under an allowance.
--- Assumes nothing.
 use Prim.Native.Nat.{ℕ, min}
 use mathlib.Core.List.{List, [], _++_}
 use lib.Dec.{leb}

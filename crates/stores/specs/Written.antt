@@ -1,5 +1,4 @@
 -- A list written into another, as a listing's words or a line's bytes.
--- Assumes nothing.
 use Prim.Native.Nat.{ℕ, _+_}
 use mathlib.Core.Path.{_≡_}
 use mathlib.Core.List.{List, _++_}

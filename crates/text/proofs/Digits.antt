@@ -1,18 +1,16 @@
 -- Numbers as text: what is read byte by byte, the digits that are written, and that reader and writer agree.
--- Assumes nothing.
 use Prim.Native.Nat.{ℕ, zero, suc, _+_, _-_, _*_, _/_, _%_, _^_, _≤_, _<_}
 use mathlib.Core.Path.{_≡_, refl, sym, ap, _∙_}
 use mathlib.Core.Bool.{Bool, true, false, _&&_, and-false}
 use mathlib.Core.List.{List, [], _∷_, _++_}
 use mathlib.Core.Option.{Option, none, some}
-use mathlib.Core.Logic.{⊎-elim}
 use native.Mathlib.Nat.{le-refl, pow-suc, div-lt-iff-lt-mul}
 use native.Mathlib.Omega.{arith}
 use borrow.Author.Tests.{ltb-true, ltb-false, lt-ltb, le-ltb, le-leb, lt-leb}
 use lib.Dec.{leb, ltb}
 use lib.ListN.{length, length-append}
 use Rattle.stores.specs.Lists.{pick}
-use Rattle.stores.proofs.Tests.{cases, and-left, and-right, and-true}
+use Rattle.stores.proofs.Tests.{by-test, by-less, and-left, and-right, and-true}
 use Rattle.text.specs.Number.{digitZero, isDigit, allDigits, valueFrom, number, withDigit, spelled, decimal, twoDigits, fourDigits}
 
 -- ---- Reading
@@ -50,17 +48,15 @@ unfolding numberFrom andThen allDigits valueFrom withDigit
 number-from v [] h = rw (lt-ltb v (2 ^ 64) h)
 number-from v (c ∷ cs) h =
     let w : ℕ = 10 * v + (c - digitZero) in
-    ⊎-elim
-    (λ (d : isDigit c ≡ true).
-    ⊎-elim
-    (λ (t : ltb w (2 ^ 64) ≡ true). rw (d, t) (number-from w cs (ltb-true w (2 ^ 64) t)))
-    (λ (t : ltb w (2 ^ 64) ≡ false).
+    by-test (isDigit c)
+    (λ d.
+    by-test (ltb w (2 ^ 64))
+    (λ t. rw (d, t) (number-from w cs (ltb-true w (2 ^ 64) t)))
+    (λ t.
     let grown : w ≤ valueFrom w cs = value-grows w cs in
     let past : 2 ^ 64 ≤ w = ltb-false w (2 ^ 64) t in
-    rw (d, t, le-ltb (valueFrom w cs) (2 ^ 64) (omega arith), and-false (allDigits cs)))
-    (cases (ltb w (2 ^ 64))))
-    (λ (d : isDigit c ≡ false). rw d)
-    (cases (isDigit c))
+    rw (d, t, le-ltb (valueFrom w cs) (2 ^ 64) (omega arith), and-false (allDigits cs))))
+    (λ d. rw d)
 
 pub number-read : (field : List ℕ) → 1 ≤ length field → length field ≤ 20 → number field ≡ numberFrom 0 field
 unfolding number
@@ -94,12 +90,11 @@ pub length-spelled : (most n : ℕ) → length (spelled most n) ≤ most
 unfolding spelled
 length-spelled zero n = le-refl 0
 length-spelled (suc most) n =
-    ⊎-elim
-    (λ (t : ltb n 10 ≡ true). rw t (omega arith))
-    (λ (t : ltb n 10 ≡ false).
+    by-test (ltb n 10)
+    (λ t. rw t (omega arith))
+    (λ t.
     let earlier : length (spelled most (n / 10)) ≤ most = length-spelled most (n / 10) in
     rw (t, length-append) (omega arith))
-    (cases (ltb n 10))
 
 tenth-below : (n most : ℕ) → n < 10 ^ suc most → n / 10 < 10 ^ most
 tenth-below n most h = div-lt-iff-lt-mul {k = 10} {x = n} {y = 10 ^ most} (omega arith) .1 (rw (pow-suc 10 most) at h)
@@ -213,11 +208,7 @@ length-four-more n h k =
     omega arith
 
 pub length-below-100 : (n : ℕ) → n < 100 → length (decimal n) ≤ 2
-length-below-100 n h =
-    ⊎-elim
-    (λ (t : ltb n 10 ≡ true). let e = length-one-digit n (ltb-true n 10 t) in omega arith)
-    (λ (t : ltb n 10 ≡ false). let e = length-two-digits n (ltb-false n 10 t) h in omega arith)
-    (cases (ltb n 10))
+length-below-100 n h = by-less n 10 (λ t. let e = length-one-digit n t in omega arith) (λ t. let e = length-two-digits n t h in omega arith)
 
 -- ---- Reader and writer agree
 
@@ -239,11 +230,9 @@ pub spelled-digits : (most n : ℕ) → allDigits (spelled most n) ≡ true
 unfolding spelled allDigits
 spelled-digits zero n = refl
 spelled-digits (suc most) n =
-    ⊎-elim
-    (λ (t : ltb n 10 ≡ true). rw t (one-digit n (ltb-true n 10 t)))
-    (λ (t : ltb n 10 ≡ false).
-    rw t (all-digits-append (spelled most (n / 10)) _ (spelled-digits most (n / 10)) (one-digit (n % 10) (omega arith))))
-    (cases (ltb n 10))
+    by-test (ltb n 10)
+    (λ t. rw t (one-digit n (ltb-true n 10 t)))
+    (λ t. rw t (all-digits-append (spelled most (n / 10)) _ (spelled-digits most (n / 10)) (one-digit (n % 10) (omega arith))))
 
 value-append : (v : ℕ) (xs ys : List ℕ) → valueFrom v (xs ++ ys) ≡ valueFrom (valueFrom v xs) ys
 unfolding valueFrom
@@ -259,23 +248,18 @@ pub spelled-value : (most n : ℕ) → n < 10 ^ suc most → valueFrom 0 (spelle
 unfolding spelled
 spelled-value zero n h = rw (lt-ltb n 10 h) (value-one 0 n ∙ omega arith)
 spelled-value (suc most) n h =
-    ⊎-elim
-    (λ (t : ltb n 10 ≡ true). rw t (value-one 0 n ∙ omega arith))
-    (λ (t : ltb n 10 ≡ false).
+    by-test (ltb n 10)
+    (λ t. rw t (value-one 0 n ∙ omega arith))
+    (λ t.
     rw t
     (value-append 0 (spelled (suc most) (n / 10)) _
     ∙ ap (λ (v : ℕ). valueFrom v ((digitZero + n % 10) ∷ [])) (spelled-value most (n / 10) (tenth-below n (suc most) h))
     ∙ value-one (n / 10) (n % 10)
     ∙ omega arith))
-    (cases (ltb n 10))
 
 spelled-some : (most n : ℕ) → 1 ≤ length (spelled (suc most) n)
 unfolding spelled
-spelled-some most n =
-    ⊎-elim
-    (λ (t : ltb n 10 ≡ true). rw t (le-refl 1))
-    (λ (t : ltb n 10 ≡ false). rw (t, length-append) (omega arith))
-    (cases (ltb n 10))
+spelled-some most n = by-test (ltb n 10) (λ t. rw t (le-refl 1)) (λ t. rw (t, length-append) (omega arith))
 
 -- A number written in decimal digits is read again.
 pub number-decimal : (n : ℕ) → n < 2 ^ 64 → number (decimal n) ≡ some n

@@ -1,17 +1,14 @@
 -- The lines of a script, one after the other.
--- Assumes nothing.
 use Prim.Native.Nat.{ℕ, suc, _+_, _-_, _*_, _≤_, _<_}
 use mathlib.Core.Path.{_≡_, refl, sym, ap, _∙_}
-use mathlib.Core.Bool.{true, false}
 use mathlib.Core.List.{List, [], _∷_}
-use mathlib.Core.Logic.{⊎-elim}
 use native.Mathlib.Numerals.{add-one}
 use native.Mathlib.Omega.{arith}
 use borrow.Author.Tests.{ne-eqb, lt-ltb, le-ltb}
 use lib.Dec.{eqb}
 use lib.ListN.{length, take, drop, getD, drop-of-length-le}
 use lib.Seq.{drop-cons, drop-drop}
-use Rattle.stores.proofs.Tests.{cases}
+use Rattle.stores.proofs.Tests.{by-test}
 use Rattle.bytes.specs.Bytes.{indexOf, indexAfter, slice}
 use Rattle.text.specs.Parts.{lineFeed, startedBy, parts, nonempty, linesOf}
 use Rattle.text.specs.Script.{NextLine}
@@ -100,10 +97,9 @@ parts-few : (xs : List ℕ) → 2 * length (nonempty (parts lineFeed xs)) + firs
 unfolding nonempty parts
 parts-few [] = omega arith
 parts-few (x ∷ xs) =
-    ⊎-elim
-    (λ (e : eqb x lineFeed ≡ true). rw e (omega (arith, parts-few xs)))
-    (λ (e : eqb x lineFeed ≡ false). rw e (started-few x (length xs) (parts lineFeed xs) (parts-few xs)))
-    (cases (eqb x lineFeed))
+    by-test (eqb x lineFeed)
+    (λ e. rw e (omega (arith, parts-few xs)))
+    (λ e. rw e (started-few x (length xs) (parts lineFeed xs) (parts-few xs)))
 
 -- Lines are parted by line feeds and none is empty, so twice their number is at most one more than the bytes.
 pub lines-few : (script : List ℕ) → 2 * length (linesOf script) ≤ length script + 1

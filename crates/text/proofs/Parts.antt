@@ -1,17 +1,14 @@
 -- A text in parts: the first one, and those behind it.
--- Assumes nothing.
 use Prim.Native.Nat.{ℕ, suc, _+_, _-_, _≤_, _<_}
 use mathlib.Core.Path.{_≡_, refl, ap, _∙_}
-use mathlib.Core.Bool.{true, false}
 use mathlib.Core.List.{List, [], _∷_}
-use mathlib.Core.Logic.{⊎-elim}
 use native.Mathlib.Omega.{arith}
 use lib.Dec.{eqb}
 use lib.ListN.{length, take, drop, length-drop}
 use lib.Seq.{take-length, drop-drop}
 use Rattle.bytes.specs.Bytes.{indexOf, indexAfter, slice}
 use Rattle.stores.specs.Lists.{pick}
-use Rattle.stores.proofs.Tests.{cases}
+use Rattle.stores.proofs.Tests.{by-test}
 use Rattle.text.specs.Parts.{startedBy, parts}
 
 -- The parts behind the first.
@@ -25,43 +22,33 @@ behind b (x ∷ xs) =
 pub parts-first : (b : ℕ) (xs : List ℕ) → parts b xs ≡ take (indexOf b xs) xs ∷ behind b xs
 unfolding parts startedBy behind indexOf indexAfter
 parts-first b [] = refl
-parts-first b (x ∷ xs) =
-    ⊎-elim
-    (λ (t : eqb x b ≡ true). rw t)
-    (λ (t : eqb x b ≡ false). rw t (ap (startedBy x) (parts-first b xs)))
-    (cases (eqb x b))
+parts-first b (x ∷ xs) = by-test (eqb x b) (λ t. rw t) (λ t. rw t (ap (startedBy x) (parts-first b xs)))
 
 -- From the separator on, an empty part comes first.
 pub parts-from : (b : ℕ) (xs : List ℕ) → parts b (drop (indexOf b xs) xs) ≡ [] ∷ behind b xs
 unfolding parts behind indexOf indexAfter
 parts-from b [] = refl
-parts-from b (x ∷ xs) =
-    ⊎-elim
-    (λ (t : eqb x b ≡ true). rw (t, t))
-    (λ (t : eqb x b ≡ false). rw t (parts-from b xs))
-    (cases (eqb x b))
+parts-from b (x ∷ xs) = by-test (eqb x b) (λ t. rw (t, t)) (λ t. rw t (parts-from b xs))
 
 pub behind-last : (b : ℕ) (xs : List ℕ) → indexOf b xs ≡ length xs → behind b xs ≡ []
 unfolding behind indexOf indexAfter
 behind-last b [] e = refl
 behind-last b (x ∷ xs) e =
-    ⊎-elim
-    (λ (t : eqb x b ≡ true). let none-left : 0 ≡ suc (length xs) = rw t at e in absurd (omega arith))
-    (λ (t : eqb x b ≡ false).
+    by-test (eqb x b)
+    (λ t. let none-left : 0 ≡ suc (length xs) = rw t at e in absurd (omega arith))
+    (λ t.
     let one-less : suc (indexOf b xs) ≡ suc (length xs) = rw t at e in
     rw t (behind-last b xs (omega arith)))
-    (cases (eqb x b))
 
 pub behind-more : (b : ℕ) (xs : List ℕ) → indexOf b xs < length xs → behind b xs ≡ parts b (drop (suc (indexOf b xs)) xs)
 unfolding behind indexOf indexAfter
 behind-more b [] h = absurd (omega arith)
 behind-more b (x ∷ xs) h =
-    ⊎-elim
-    (λ (t : eqb x b ≡ true). rw t)
-    (λ (t : eqb x b ≡ false).
+    by-test (eqb x b)
+    (λ t. rw t)
+    (λ t.
     let one-less : suc (indexOf b xs) < suc (length xs) = rw t at h in
     rw t (behind-more b xs (omega arith)))
-    (cases (eqb x b))
 
 -- The same for a part of a text that starts at a position, where the separator has been found.
 module _ (b : ℕ) (text : List ℕ) (start end : ℕ) (h : start ≤ length text)

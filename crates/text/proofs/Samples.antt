@@ -1,5 +1,4 @@
 -- Numbers and lines of a text: a table that antt computes from the definitions.
--- Assumes nothing.
 use Prim.Native.Nat.{ℕ}
 use mathlib.Core.Path.{_≡_, refl}
 use mathlib.Core.Bool.{Bool, true, false, _&&_}

@@ -1,5 +1,4 @@
 -- Document 01, 'The desk program': a number is 1 to 20 decimal digits, below 2^64; leading zeros are allowed.
--- Assumes nothing.
 use Prim.Native.Nat.{ℕ, zero, suc, _+_, _-_, _*_, _/_, _%_, _^_}
 use mathlib.Core.Bool.{Bool, true, _&&_}
 use mathlib.Core.List.{List, [], _∷_, _++_}

@@ -1,5 +1,4 @@
 -- Document 01, 'The desk program': a text in parts. A script's lines are parted by line feeds, a line's fields by tabs.
--- Assumes nothing.
 use Prim.Native.Nat.{ℕ}
 use mathlib.Core.List.{List, [], _∷_}
 use lib.Dec.{eqb}

@@ -1,5 +1,4 @@
 -- `desk_run::run` meets its contract.
--- Assumes nothing.
 use native.Mathlib.Omega.{arith}
 use borrow.Author.Needs.{needs}
 use Rattle.text.proofs.Lines.{lines-few}
@@ -7,17 +6,8 @@ use Rattle.desk_run.proofs.Runs.{output-too-long, output-lines}
 use Rattle.desk_run.proofs.run.Statement.{statement}
 use Rattle.desk_run.proofs.run.Tie as tie
 
-write-too-long-requires : tie.Need-write-too-long-requires
-write-too-long-requires c κs = search needs
-
 returns : tie.Need-returns
 returns c = output-too-long _ _ _ _ (c .before .before .if1 .taken) (c .write-too-long .ensures)
-
-slice-aggregate-run-lines : tie.Need-slice-aggregate-run-lines
-slice-aggregate-run-lines c = search needs
-
-slice-aggregate-run-lines-2 : tie.Need-slice-aggregate-run-lines-2
-slice-aggregate-run-lines-2 c = search needs
 
 run-lines-requires : tie.Need-run-lines-requires
 run-lines-requires c κs = omega (arith, lines-few (c .before .before .before .before .before .args .script .now), c .before .before .before .if1 .left)
@@ -29,9 +19,9 @@ pub run-spec : {M : Type 1} → statement M
 run-spec =
     tie.close
     (tie.spec
-    write-too-long-requires
+    (λ c κs. search needs)
     returns
-    slice-aggregate-run-lines
-    slice-aggregate-run-lines-2
+    (λ c. search needs)
+    (λ c. search needs)
     run-lines-requires
     returns-2)

@@ -1,5 +1,4 @@
 -- `desk_run::run_lines` meets its contract. The invariant: the lines so far have been run, and the others have room.
--- Assumes nothing.
 use mathlib.Core.Path.{_≡_, refl}
 use Prim.Native.Nat.{_-_}
 use lib.ListN.{length}
@@ -39,15 +38,6 @@ loop-again c =
     let here = c .before .before .before .before .before .before .before .before .before .before .before .loop in
     (search needs, search needs, search needs, lines-more _ _ _ _ _ _ _ _ _ _ _ _ _ _ (omega arith) (here .inv .3) (rw (here .inv .1) at (c .before .before .before .before .before .before .run-next .ensures .ran)))
 
-same-length : tie.Need-same-length Inv-loop μ-loop
-same-length c = search needs
-
-same-length-2 : tie.Need-same-length-2 Inv-loop μ-loop
-same-length-2 c = search needs
-
-same-length-3 : tie.Need-same-length-3 Inv-loop μ-loop
-same-length-3 c = search needs
-
 returns : tie.Need-returns Inv-loop μ-loop
 returns c = lines-ended _ _ _ _ _ _ _ _ (search needs) (c .before .loop .inv .3)
 
@@ -61,7 +51,7 @@ run-lines-spec =
     run-next-requires
     loop-less
     loop-again
-    same-length
-    same-length-2
-    same-length-3
+    (λ c. search needs)
+    (λ c. search needs)
+    (λ c. search needs)
     returns)

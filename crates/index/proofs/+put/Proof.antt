@@ -1,5 +1,4 @@
 -- `index::put` meets its contract. The measure is the depth still unused: D minus the local depth of the key's entry.
--- Assumes nothing.
 use Prim.Native.Nat.{ℕ, _<_}
 use mathlib.Core.Path.{_≡_}
 use native.Mathlib.Omega.{arith}
@@ -9,7 +8,7 @@ use borrow.Fn.PlainCycle.{Measures, is, falls, and}
 use Rattle.index_rules.specs.Slots.{full}
 use Rattle.index_rules.specs.Put.{putTests, keyChoice, unused}
 use Rattle.index.proofs.Places.{Stands, stands, refused-by}
-use Rattle.index.proofs.Puts.{choice-full-read, found-slot, into-slot, answers-found, answers-into, answers-refused, answers-too-deep, answers-no-segment, split-of, answers-cut, put-falls, rest-allowed, answers-again}
+use Rattle.index.proofs.Puts.{SplitOf, choice-full-read, found-slot, into-slot, answers-found, answers-into, answers-refused, answers-too-deep, answers-no-segment, split-of, answers-cut, put-falls, rest-allowed, answers-again}
 use Rattle.index.proofs.put.Reads as put
 use Rattle.index.proofs.put.Kinds as put-kinds
 use Rattle.index.proofs.+put.Lts-put as put-lts
@@ -35,146 +34,83 @@ put-below t = and 1 put-kinds.ps (falls 1 put-kinds.ps _<_ μ-put t) put.Pre
 abbrev learnt : ℕ → put-lts.Claims
 learnt t = (place-to-change-reads.Asked, place-to-change-reads.Learnt, without-store-reads.Asked, without-store-reads.Learnt, choose-at-reads.Asked, choose-at-reads.Learnt, put-value-reads.Asked, put-value-reads.Learnt, put-record-reads.Asked, put-record-reads.Learnt, split-reads.Asked, split-reads.Learnt, put-below t, put.Post)
 
--- ---- What is known behind the tests, and where the window is full
+-- ---- What is known behind the tests, where the window is full, and where it is split
+
+-- The beginning of the call, from behind its tests.
+abbrev begun : (t : ℕ) → put-lts.After-known-told (learnt t) (put-at t) put.Post → put-lts.Start (learnt t) (put-at t) put.Post
+begun t c = c .before .before .before .before .before .before
 
 stood : (t : ℕ) (c : put-lts.After-known-told (learnt t) (put-at t) put.Post)
-    → Stands (c .before .place .given .0 .0) (c .before .before .before .before .before .before .args .words .now) (c .before .before .before .before .before .before .args .key) (putTests (c .before .before .before .before .before .before .args .words .now) (c .before .before .before .before .before .before .args .key))
+    → Stands (c .before .place .given .0 .0) (begun t c .args .words .now) (begun t c .args .key) (putTests (begun t c .args .words .now) (begun t c .args .key))
 stood t c = stands _ _ _ _ (c .before .before .before .place-to-change .ensures) _ (c .before .place .given .1)
 
-full-at : (t : ℕ) (c : put-lts.After-enum-told (learnt t) (put-at t) put.Post) → keyChoice (c .before .before .before .before .before .before .before .before .before .before .args .words .now) (c .before .before .before .before .before .before .before .before .before .before .args .key) ≡ full
+full-at : (t : ℕ) (c : put-lts.After-enum-told (learnt t) (put-at t) put.Post)
+    → keyChoice (begun t (c .before .before .before .before) .args .words .now) (begun t (c .before .before .before .before) .args .key) ≡ full
 full-at t c = choice-full-read (stood t (c .before .before .before .before)) _ (c .before .before .choose-at .ensures) (c .enum-told .given .1)
 
--- ---- The needs, in the order of the code
+-- The place behind the tests, from behind the split.
+abbrev placed : (t : ℕ) → put-lts.After-due (learnt t) (put-at t) put.Post → put-lts.After-known-told (learnt t) (put-at t) put.Post
+placed t c = c .before .before .before .before .before .before .before .before .before .before
 
-put-place-to-change-requires : (t : ℕ) → put-lts.Need-place-to-change-requires (learnt t) (put-at t) put.Post
-put-place-to-change-requires t c κs = search needs
+split-at : (t : ℕ) (c : put-lts.After-due (learnt t) (put-at t) put.Post)
+    → SplitOf (placed t c .before .place .given .0 .0) (begun t (placed t c) .args .key) (begun t (placed t c) .args .allowance) (c .due .given .0 .0)
+    (begun t (placed t c) .args .words .now) (c .before .before .before .before .split .last .0)
+split-at t c = split-of (stood t (placed t c)) (full-at t (c .before .before .before .before .before .before)) _ _ _ (c .before .before .before .before .split .ensures) (c .due .given .1)
 
-put-enum-known-place : (t : ℕ) → put-lts.Need-enum-known-place (learnt t) (put-at t) put.Post
-put-enum-known-place t c = search needs
-
-put-enum-known-refusal : (t : ℕ) → put-lts.Need-enum-known-refusal (learnt t) (put-at t) put.Post
-put-enum-known-refusal t c = search needs
-
-put-without-store-requires : (t : ℕ) → put-lts.Need-without-store-requires (learnt t) (put-at t) put.Post
-put-without-store-requires t c κs = search needs
-
-put-same-length : (t : ℕ) → put-lts.Need-same-length (learnt t) (put-at t) put.Post
-put-same-length t c = search needs
-
-put-returns : (t : ℕ) → put-lts.Need-returns (learnt t) (put-at t) put.Post
-put-returns t c = answers-refused _ _ _ _ _ _ (refused-by _ _ _ _ (c .before .before .before .before .place-to-change .ensures) _ (c .before .before .refusal .given .1)) (c .without-store .ensures)
-
-put-choose-at-requires : (t : ℕ) → put-lts.Need-choose-at-requires (learnt t) (put-at t) put.Post
-put-choose-at-requires t c κs = stood t (c .before) .2
-
-put-enum-known-slot : (t : ℕ) → put-lts.Need-enum-known-slot (learnt t) (put-at t) put.Post
-put-enum-known-slot t c = search needs
-
-put-put-value-requires : (t : ℕ) → put-lts.Need-put-value-requires (learnt t) (put-at t) put.Post
-put-put-value-requires t c κs = (found-slot (stood t (c .before .before .before .before .before .before)) _ (c .before .before .before .before .choose-at .ensures) (c .before .before .slot .given .1), (stood t (c .before .before .before .before .before .before)) .2)
-
-put-same-length-2 : (t : ℕ) → put-lts.Need-same-length-2 (learnt t) (put-at t) put.Post
-put-same-length-2 t c = search needs
-
-put-returns-2 : (t : ℕ) → put-lts.Need-returns-2 (learnt t) (put-at t) put.Post
-put-returns-2 t c = answers-found (stood t (c .before .before .before .before .before .before .before .before .before)) _ (c .before .before .before .before .before .before .before .choose-at .ensures) _ _ _ _ (c .before .before .before .before .before .slot .given .1) (c .before .before .put-value .ensures)
-
-put-enum-known-slot-2 : (t : ℕ) → put-lts.Need-enum-known-slot-2 (learnt t) (put-at t) put.Post
-put-enum-known-slot-2 t c = search needs
-
-put-put-record-requires : (t : ℕ) → put-lts.Need-put-record-requires (learnt t) (put-at t) put.Post
-put-put-record-requires t c κs = (into-slot (stood t (c .before .before .before .before .before .before)) _ (c .before .before .before .before .choose-at .ensures) (c .before .before .slot2 .given .1), (stood t (c .before .before .before .before .before .before)) .2)
-
-put-same-length-3 : (t : ℕ) → put-lts.Need-same-length-3 (learnt t) (put-at t) put.Post
-put-same-length-3 t c = search needs
-
-put-returns-3 : (t : ℕ) → put-lts.Need-returns-3 (learnt t) (put-at t) put.Post
-put-returns-3 t c = answers-into (stood t (c .before .before .before .before .before .before .before .before .before)) _ (c .before .before .before .before .before .before .before .choose-at .ensures) _ _ _ _ (c .before .before .before .before .before .slot2 .given .1) (c .before .before .put-record .ensures)
-
-put-enum-told : (t : ℕ) → put-lts.Need-enum-told (learnt t) (put-at t) put.Post
-put-enum-told t c = search needs
-
-put-split-requires : (t : ℕ) → put-lts.Need-split-requires (learnt t) (put-at t) put.Post
-put-split-requires t c κs = stood t (c .before .before .before .before .before) .2
-
-put-enum-known-due : (t : ℕ) → put-lts.Need-enum-known-due (learnt t) (put-at t) put.Post
-put-enum-known-due t c = search needs
-
-put-enum-told-2 : (t : ℕ) → put-lts.Need-enum-told-2 (learnt t) (put-at t) put.Post
-put-enum-told-2 t c = search needs
-
-put-without-store-requires-2 : (t : ℕ) → put-lts.Need-without-store-requires-2 (learnt t) (put-at t) put.Post
-put-without-store-requires-2 t c κs = search needs
-
-put-same-length-4 : (t : ℕ) → put-lts.Need-same-length-4 (learnt t) (put-at t) put.Post
-put-same-length-4 t c = search needs
-
-put-returns-4 : (t : ℕ) → put-lts.Need-returns-4 (learnt t) (put-at t) put.Post
-put-returns-4 t c = answers-too-deep (stood t (c .before .before .before .before .before .before .before .before .before .before .before)) (full-at t (c .before .before .before .before .before .before .before)) _ _ _ (c .before .before .before .before .before .split .ensures) (c .before .enum-told2 .given .1) _ _ (c .without-store2 .ensures)
-
-put-enum-told-3 : (t : ℕ) → put-lts.Need-enum-told-3 (learnt t) (put-at t) put.Post
-put-enum-told-3 t c = search needs
-
-put-without-store-requires-3 : (t : ℕ) → put-lts.Need-without-store-requires-3 (learnt t) (put-at t) put.Post
-put-without-store-requires-3 t c κs = search needs
-
-put-same-length-5 : (t : ℕ) → put-lts.Need-same-length-5 (learnt t) (put-at t) put.Post
-put-same-length-5 t c = search needs
-
-put-returns-5 : (t : ℕ) → put-lts.Need-returns-5 (learnt t) (put-at t) put.Post
-put-returns-5 t c = answers-no-segment (stood t (c .before .before .before .before .before .before .before .before .before .before .before)) (full-at t (c .before .before .before .before .before .before .before)) _ _ _ (c .before .before .before .before .before .split .ensures) (c .before .enum-told3 .given .1) _ _ (c .without-store3 .ensures)
-
-put-same-length-6 : (t : ℕ) → put-lts.Need-same-length-6 (learnt t) (put-at t) put.Post
-put-same-length-6 t c = search needs
-
-put-returns-6 : (t : ℕ) → put-lts.Need-returns-6 (learnt t) (put-at t) put.Post
-put-returns-6 t c = answers-cut (split-of (stood t (c .before .before .before .before .before .before .before .before .before .before .before .before)) (full-at t (c .before .before .before .before .before .before .before .before)) _ _ _ (c .before .before .before .before .before .before .split .ensures) (c .before .before .due .given .1)) _ (omega (arith, c .if1 .taken))
-
-put-put-requires : (t : ℕ) → put-lts.Need-put-requires (learnt t) (put-at t) put.Post
-put-put-requires t c κs = (rw (c .before .before .before .before .before .before .before .before .before .before .before .before .before .before .before .before .before .before .before .pre .0) at (put-falls (split-of (stood t (c .before .before .before .before .before .before .before .before .before .before .before .before .before)) (full-at t (c .before .before .before .before .before .before .before .before .before)) _ _ _ (c .before .before .before .before .before .before .before .split .ensures) (c .before .before .before .due .given .1)) (c .before .before .before .before .before .before .before .before .before .before .before .before .before .before .before .before .before .before .before .args .value) (omega (arith, c .before .if1 .left))), Prim.tt)
-
-put-add-stores : (t : ℕ) → put-lts.Need-add-stores (learnt t) (put-at t) put.Post
-put-add-stores t c = omega (arith, c .before .before .before .before .before .if1 .left, rest-allowed (split-of (stood t (c .before .before .before .before .before .before .before .before .before .before .before .before .before .before .before .before .before)) (full-at t (c .before .before .before .before .before .before .before .before .before .before .before .before .before)) _ _ _ (c .before .before .before .before .before .before .before .before .before .before .before .split .ensures) (c .before .before .before .before .before .before .before .due .given .1)) (c .before .before .before .before .before .before .before .before .before .before .before .before .before .before .before .before .before .before .before .before .before .before .before .args .value) (omega (arith, c .before .before .before .before .before .if1 .left)) (c .before .before .before .put .ensures), c .before .before .before .before .before .before .before .before .before .before .before .before .before .before .before .before .before .before .before .before .before .before .before .good)
-
-put-same-length-7 : (t : ℕ) → put-lts.Need-same-length-7 (learnt t) (put-at t) put.Post
-put-same-length-7 t c = search needs
-
-put-returns-7 : (t : ℕ) → put-lts.Need-returns-7 (learnt t) (put-at t) put.Post
-put-returns-7 t c = answers-again (split-of (stood t (c .before .before .before .before .before .before .before .before .before .before .before .before .before .before .before .before .before)) (full-at t (c .before .before .before .before .before .before .before .before .before .before .before .before .before)) _ _ _ (c .before .before .before .before .before .before .before .before .before .before .before .split .ensures) (c .before .before .before .before .before .before .before .due .given .1)) _ (omega (arith, c .before .before .before .before .before .if1 .left)) (c .before .before .before .put .ensures)
-
+-- The needs, in the order of the code: the tests and what they refuse, the value put where the key is found, the record put into a free slot,
+-- the split, its two refusals and the cut in it, and the put behind it.
 pub +put-spec : {M : Type 1} → statement M
 +put-spec = close μ-put λ t. put-lts.spec (learnt t)
     (put-at t)
     put.Post
-    (put-place-to-change-requires t)
-    (put-enum-known-place t)
-    (put-enum-known-refusal t)
-    (put-without-store-requires t)
-    (put-same-length t)
-    (put-returns t)
-    (put-choose-at-requires t)
-    (put-enum-known-slot t)
-    (put-put-value-requires t)
-    (put-same-length-2 t)
-    (put-returns-2 t)
-    (put-enum-known-slot-2 t)
-    (put-put-record-requires t)
-    (put-same-length-3 t)
-    (put-returns-3 t)
-    (put-enum-told t)
-    (put-split-requires t)
-    (put-enum-known-due t)
-    (put-enum-told-2 t)
-    (put-without-store-requires-2 t)
-    (put-same-length-4 t)
-    (put-returns-4 t)
-    (put-enum-told-3 t)
-    (put-without-store-requires-3 t)
-    (put-same-length-5 t)
-    (put-returns-5 t)
-    (put-same-length-6 t)
-    (put-returns-6 t)
-    (put-put-requires t)
-    (put-add-stores t)
-    (put-same-length-7 t)
-    (put-returns-7 t)
+    (λ c κs. search needs)
+    (λ c. search needs)
+    (λ c. search needs)
+    (λ c κs. search needs)
+    (λ c. search needs)
+    (λ c. answers-refused _ _ _ _ _ _ (refused-by _ _ _ _ (c .before .before .before .before .place-to-change .ensures) _ (c .before .before .refusal .given .1)) (c .without-store .ensures))
+    (λ c κs. stood t (c .before) .2)
+    (λ c. search needs)
+    (λ c κs.
+    let at = stood t (c .before .before .before .before .before .before) in
+    (found-slot at _ (c .before .before .before .before .choose-at .ensures) (c .before .before .slot .given .1), at .2))
+    (λ c. search needs)
+    (λ c.
+    let chosen = c .before .before .before .before .before .before .before in
+    answers-found (stood t (chosen .before .before)) _ (chosen .choose-at .ensures) _ _ _ _ (c .before .before .before .before .before .slot .given .1) (c .before .before .put-value .ensures))
+    (λ c. search needs)
+    (λ c κs.
+    let at = stood t (c .before .before .before .before .before .before) in
+    (into-slot at _ (c .before .before .before .before .choose-at .ensures) (c .before .before .slot2 .given .1), at .2))
+    (λ c. search needs)
+    (λ c.
+    let chosen = c .before .before .before .before .before .before .before in
+    answers-into (stood t (chosen .before .before)) _ (chosen .choose-at .ensures) _ _ _ _ (c .before .before .before .before .before .slot2 .given .1) (c .before .before .put-record .ensures))
+    (λ c. search needs)
+    (λ c κs. stood t (c .before .before .before .before .before) .2)
+    (λ c. search needs)
+    (λ c. search needs)
+    (λ c κs. search needs)
+    (λ c. search needs)
+    (λ c.
+    let split = c .before .before .before .before .before in
+    answers-too-deep (stood t (split .before .before .before .before .before .before)) (full-at t (split .before .before)) _ _ _ (split .split .ensures) (c .before .enum-told2 .given .1) _ _ (c .without-store2 .ensures))
+    (λ c. search needs)
+    (λ c κs. search needs)
+    (λ c. search needs)
+    (λ c.
+    let split = c .before .before .before .before .before in
+    answers-no-segment (stood t (split .before .before .before .before .before .before)) (full-at t (split .before .before)) _ _ _ (split .split .ensures) (c .before .enum-told3 .given .1) _ _ (c .without-store3 .ensures))
+    (λ c. search needs)
+    (λ c. answers-cut (split-at t (c .before .before)) _ (omega (arith, c .if1 .taken)))
+    (λ c κs.
+    let due = c .before .before .before in
+    let start = begun t (placed t due) in
+    (rw (start .pre .0) at (put-falls (split-at t due) (start .args .value) (omega (arith, c .before .if1 .left))), Prim.tt))
+    (λ c.
+    let due = c .before .before .before .before .before .before .before in
+    let start = begun t (placed t due) in
+    let left = c .before .before .before .before .before .if1 .left in
+    omega (arith, left, rest-allowed (split-at t due) (start .args .value) (omega (arith, left)) (c .before .before .before .put .ensures), start .good))
+    (λ c. search needs)
+    (λ c. answers-again (split-at t (c .before .before .before .before .before .before .before)) _ (omega (arith, c .before .before .before .before .before .if1 .left)) (c .before .before .before .put .ensures))

@@ -1,5 +1,4 @@
 -- `index::format` meets its contract.
--- Assumes nothing.
 use borrow.Author.Needs.{needs}
 use native.Mathlib.Omega.{arith}
 use borrow.Author.Tests.{not-true, not-false}
@@ -10,21 +9,12 @@ use Rattle.index.proofs.Calls.{format-bad-shape, format-too-short, form
 use Rattle.index.proofs.format.Statement.{statement}
 use Rattle.index.proofs.format.Tie as tie
 
-valid-shape-requires : tie.Need-valid-shape-requires
-valid-shape-requires c κs = search needs
-
-without-store-requires : tie.Need-without-store-requires
-without-store-requires c κs = search needs
-
 returns : tie.Need-returns
 returns c =
     format-bad-shape _ _ _ _ _ (sym (c .before .before .valid-shape .ensures) ∙ not-true _ (c .before .if1 .taken)) (ap saidBy (c .without-store .ensures .0), c .without-store .ensures .1)
 
 words-for-requires : tie.Need-words-for-requires
 words-for-requires c κs = sym (c .before .valid-shape .ensures) ∙ not-false _ (c .if1 .left)
-
-without-store-requires-2 : tie.Need-without-store-requires-2
-without-store-requires-2 c κs = search needs
 
 returns-2 : tie.Need-returns-2
 returns-2 c =
@@ -40,12 +30,6 @@ cast-store-empty-2 c = let s = shape _ _ (sym (c .before .before .before .before
 store-empty-requires : tie.Need-store-empty-requires
 store-empty-requires c κs = (sym (c .before .before .before .before .valid-shape .ensures) ∙ not-false _ (c .before .before .before .if1 .left), rw (c .before .before .words-for .ensures) at (c .before .if2 .left))
 
-after-stores-requires : tie.Need-after-stores-requires
-after-stores-requires c κs = search needs
-
-same-length : tie.Need-same-length
-same-length c = search needs
-
 returns-3 : tie.Need-returns-3
 returns-3 c =
     format-done _ _ _ _ _ (sym (c .before .before .before .before .before .before .before .before .valid-shape .ensures) ∙ not-false _ (c .before .before .before .before .before .before .before .if1 .left)) (rw (c .before .before .before .before .before .before .words-for .ensures) at (c .before .before .before .before .before .if2 .left)) _ _ (c .before .before .before .store-empty .ensures)
@@ -55,15 +39,15 @@ pub format-spec : {M : Type 1} → statement M
 format-spec =
     tie.close
     (tie.spec
-    valid-shape-requires
-    without-store-requires
+    (λ c κs. search needs)
+    (λ c κs. search needs)
     returns
     words-for-requires
-    without-store-requires-2
+    (λ c κs. search needs)
     returns-2
     cast-store-empty
     cast-store-empty-2
     store-empty-requires
-    after-stores-requires
-    same-length
+    (λ c κs. search needs)
+    (λ c. search needs)
     returns-3)

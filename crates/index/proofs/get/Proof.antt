@@ -1,104 +1,62 @@
 -- `index::get` meets its contract.
--- Assumes nothing.
+use Prim.Native.Nat.{_+_, _≤_, _<_}
 use native.Mathlib.Omega.{arith}
 use mathlib.Core.Path.{ap}
+use lib.ListN.{length}
 use Rattle.replies.specs.Replies.{saidBy}
+use Rattle.index_rules.specs.Get.{getTests}
 use Rattle.index_layout.proofs.Places.{place-bounds}
-use Rattle.index.proofs.Places.{stands, refused-by, found-hit, absent-hit, found-inside}
+use Rattle.index.proofs.Places.{Stands, stands, refused-by, found-hit, absent-hit, found-inside}
 use Rattle.index.proofs.Calls.{get-refused, get-absent, get-found}
 use borrow.Author.Needs.{needs}
 use Rattle.index.proofs.get.Statement.{statement}
 use Rattle.index.proofs.get.Tie as tie
 
-place-to-read-requires : tie.Need-place-to-read-requires
-place-to-read-requires c κs = search needs
+-- The beginning of the call, and the place of the key, from behind the tests.
+abbrev begun : tie.After-known-told → tie.Start
+begun c = c .before .before .before .before .before
 
-enum-known-place : tie.Need-enum-known-place
-enum-known-place c = search needs
+stood : (c : tie.After-known-told)
+    → Stands (c .before .place .given .0 .0) (begun c .args .words .now) (begun c .args .key) (getTests (begun c .args .words .now) (begun c .args .key))
+stood c = stands _ _ _ _ (c .before .before .before .place-to-read .ensures) _ (c .before .place .given .1)
 
-enum-known-refusal : tie.Need-enum-known-refusal
-enum-known-refusal c = search needs
-
-without-store-requires : tie.Need-without-store-requires
-without-store-requires c κs = search needs
+-- The slot that is found there, and its segment, are inside.
+found-at : (c : tie.After-known-told3)
+    → (c .before .slot .given .0 .0 < 64) × (c .before .before .before .before .before .place .given .0 .0 .base + 128 ≤ length (begun (c .before .before .before .before) .args .words .now))
+found-at c = found-inside (stood (c .before .before .before .before) .2) _ (c .before .before .before .find-at .ensures) _ (c .before .slot .given .1)
 
 returns : tie.Need-returns
 returns c =
     get-refused _ _ _ _ (refused-by _ _ _ _ (c .before .before .before .before .place-to-read .ensures) _ (c .before .before .refusal .given .1)) (ap saidBy (c .without-store .ensures .0), c .without-store .ensures .1)
 
-find-at-requires : tie.Need-find-at-requires
-find-at-requires c κs = place-bounds ((stands _ _ _ _ (c .before .before .before .place-to-read .ensures) _ (c .before .place .given .1)) .2) .whole
-
-enum-known-slot : tie.Need-enum-known-slot
-enum-known-slot c = search needs
-
-enum-told : tie.Need-enum-told
-enum-told c = search needs
-
-without-store-requires-2 : tie.Need-without-store-requires-2
-without-store-requires-2 c κs = search needs
-
 returns-2 : tie.Need-returns-2
 returns-2 c =
-    let x = stands _ _ _ _ (c .before .before .before .before .before .before .before .place-to-read .ensures) _ (c .before .before .before .before .before .place .given .1) in
+    let x = stood (c .before .before .before .before) in
     get-absent _ _ _ _ x (absent-hit (x .2) _ (c .before .before .before .find-at .ensures) (c .before .enum-told .given .1)) (ap saidBy (c .without-store2 .ensures .0), c .without-store2 .ensures .1)
-
-mul-t13 : tie.Need-mul-t13
-mul-t13 c =
-    let x = stands _ _ _ _ (c .before .before .before .before .before .before .before .place-to-read .ensures) _ (c .before .before .before .before .before .place .given .1) in
-    let i = found-inside (x .2) _ (c .before .before .before .find-at .ensures) _ (c .before .slot .given .1) in
-    omega arith
-
-add-t14 : tie.Need-add-t14
-add-t14 c =
-    let x = stands _ _ _ _ (c .before .before .before .before .before .before .before .place-to-read .ensures) _ (c .before .before .before .before .before .place .given .1) in
-    let i = found-inside (x .2) _ (c .before .before .before .find-at .ensures) _ (c .before .slot .given .1) in
-    omega arith
-
-add-t15 : tie.Need-add-t15
-add-t15 c =
-    let x = stands _ _ _ _ (c .before .before .before .before .before .before .before .place-to-read .ensures) _ (c .before .before .before .before .before .place .given .1) in
-    let i = found-inside (x .2) _ (c .before .before .before .find-at .ensures) _ (c .before .slot .given .1) in
-    omega arith
-
-mul-t16 : tie.Need-mul-t16
-mul-t16 c =
-    let x = stands _ _ _ _ (c .before .before .before .before .before .before .before .place-to-read .ensures) _ (c .before .before .before .before .before .place .given .1) in
-    let i = found-inside (x .2) _ (c .before .before .before .find-at .ensures) _ (c .before .slot .given .1) in
-    omega arith
-
-shared-slice-read-t18 : tie.Need-shared-slice-read-t18
-shared-slice-read-t18 c =
-    let x = stands _ _ _ _ (c .before .before .before .before .before .before .before .before .place-to-read .ensures) _ (c .before .before .before .before .before .before .place .given .1) in
-    let i = found-inside (x .2) _ (c .before .before .before .before .find-at .ensures) _ (c .before .before .slot .given .1) in
-    omega arith
-
-without-store-requires-3 : tie.Need-without-store-requires-3
-without-store-requires-3 c κs = search needs
 
 returns-3 : tie.Need-returns-3
 returns-3 c =
-    let x = stands _ _ _ _ (c .before .before .before .before .before .before .before .before .before .place-to-read .ensures) _ (c .before .before .before .before .before .before .before .place .given .1) in
+    let x = stood (c .before .before .before .before .before .before) in
     get-found _ _ _ _ x _ (found-hit (x .2) _ (c .before .before .before .before .before .find-at .ensures) _ (c .before .before .before .slot .given .1)) (ap saidBy (c .without-store3 .ensures .0), c .without-store3 .ensures .1)
 
 pub get-spec : {M : Type 1} → statement M
 get-spec =
     tie.close
     (tie.spec
-    place-to-read-requires
-    enum-known-place
-    enum-known-refusal
-    without-store-requires
+    (λ c κs. search needs)
+    (λ c. search needs)
+    (λ c. search needs)
+    (λ c κs. search needs)
     returns
-    find-at-requires
-    enum-known-slot
-    enum-told
-    without-store-requires-2
+    (λ c κs. place-bounds (stood c .2) .whole)
+    (λ c. search needs)
+    (λ c. search needs)
+    (λ c κs. search needs)
     returns-2
-    mul-t13
-    add-t14
-    add-t15
-    mul-t16
-    shared-slice-read-t18
-    without-store-requires-3
+    (λ c. omega (arith, found-at c))
+    (λ c. omega (arith, found-at c))
+    (λ c. omega (arith, found-at c))
+    (λ c. omega (arith, found-at c))
+    (λ c. omega (arith, found-at (c .before)))
+    (λ c κs. search needs)
     returns-3)

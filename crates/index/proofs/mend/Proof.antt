@@ -1,5 +1,4 @@
 -- `index::mend` meets its contract.
--- Assumes nothing.
 use borrow.Author.Needs.{needs}
 use native.Mathlib.Omega.{arith}
 use mathlib.Core.Path.{ap}
@@ -11,21 +10,6 @@ use Rattle.index.proofs.Calls.{verdict-valid, mend-no-store, mend-broke
 use Rattle.index.proofs.mend.Statement.{statement}
 use Rattle.index.proofs.mend.Tie as tie
 
-read-header-requires : tie.Need-read-header-requires
-read-header-requires c κs = search needs
-
-enum-known-header : tie.Need-enum-known-header
-enum-known-header c = search needs
-
-enum-told : tie.Need-enum-told
-enum-told c = search needs
-
-without-store-requires : tie.Need-without-store-requires
-without-store-requires c κs = search needs
-
-same-length : tie.Need-same-length
-same-length c = search needs
-
 returns : tie.Need-returns
 returns c =
     mend-no-store _ _ _ (header-not-valid _ _ (c .before .before .before .read-header .ensures) (c .before .enum-told .given .1))
@@ -33,15 +17,6 @@ returns c =
 
 scan-requires : tie.Need-scan-requires
 scan-requires c κs = header-valid _ _ (c .before .before .before .before .read-header .ensures) _ (c .before .before .header .given .1)
-
-enum-told-2 : tie.Need-enum-told-2
-enum-told-2 c = search needs
-
-without-store-requires-2 : tie.Need-without-store-requires-2
-without-store-requires-2 c κs = search needs
-
-same-length-2 : tie.Need-same-length-2
-same-length-2 c = search needs
 
 returns-2 : tie.Need-returns-2
 returns-2 c =
@@ -54,34 +29,30 @@ mend-entries-requires c κs =
     let d = header-valid _ _ (c .before .before .before .before .before .before .before .read-header .ensures) _ (c .before .before .before .before .before .header .given .1) in
     ((d, verdict-valid (c .before .before .before .before .before .before .before .before .before .before .args .words .now) (c .before .before .scan .result) (c .before .before .scan .ensures) (λ q. ⊎-elim (λ e. omega (arith, rw q at e)) (λ e. omega (arith, rw q at e)) (c .before .match2 .keys2))), search needs)
 
-after-stores-requires : tie.Need-after-stores-requires
-after-stores-requires c κs = search needs
-
-same-length-3 : tie.Need-same-length-3
-same-length-3 c = search needs
-
 returns-3 : tie.Need-returns-3
 returns-3 c =
-    let d = header-valid _ _ (c .before .before .before .before .before .before .before .before .before .before .before .read-header .ensures) _ (c .before .before .before .before .before .before .before .before .before .header .given .1) in
-    let v = verdict-valid (c .before .before .before .before .before .before .before .before .before .before .before .before .before .before .args .words .now) (c .before .before .before .before .before .before .scan .result) (c .before .before .before .before .before .before .scan .ensures) (λ q. ⊎-elim (λ e. omega (arith, rw q at e)) (λ e. omega (arith, rw q at e)) (c .before .before .before .before .before .match2 .keys2)) in
+    let at-header = c .before .before .before .before .before .before .before .before .before in
+    let at-read-header = at-header .before .before in
+    let d = header-valid _ _ (at-read-header .read-header .ensures) _ (at-header .header .given .1) in
+    let v = verdict-valid (at-read-header .before .before .before .args .words .now) (c .before .before .before .before .before .before .scan .result) (c .before .before .before .before .before .before .scan .ensures) (λ q. ⊎-elim (λ e. omega (arith, rw q at e)) (λ e. omega (arith, rw q at e)) (c .before .before .before .before .before .match2 .keys2)) in
     mend-done _ _ _ (d .valid) v _ _ (c .before .before .before .mend-entries .ensures) (c .after-stores .ensures)
 
 pub mend-spec : {M : Type 1} → statement M
 mend-spec =
     tie.close
     (tie.spec
-    read-header-requires
-    enum-known-header
-    enum-told
-    without-store-requires
-    same-length
+    (λ c κs. search needs)
+    (λ c. search needs)
+    (λ c. search needs)
+    (λ c κs. search needs)
+    (λ c. search needs)
     returns
     scan-requires
-    enum-told-2
-    without-store-requires-2
-    same-length-2
+    (λ c. search needs)
+    (λ c κs. search needs)
+    (λ c. search needs)
     returns-2
     mend-entries-requires
-    after-stores-requires
-    same-length-3
+    (λ c κs. search needs)
+    (λ c. search needs)
     returns-3)

@@ -1,97 +1,61 @@
 -- `index::remove` meets its contract.
--- Assumes nothing.
+use Prim.Native.Nat.{_+_, _≤_, _<_}
 use native.Mathlib.Omega.{arith}
 use mathlib.Core.Path.{ap}
+use lib.ListN.{length}
 use Rattle.replies.specs.Replies.{saidBy}
-use Rattle.index.proofs.Places.{stands, refused-by, chosen-hit, chosen-inside, not-chosen}
+use Rattle.index_rules.specs.Put.{putTests}
+use Rattle.index.proofs.Places.{Stands, stands, refused-by, chosen-hit, chosen-inside, not-chosen}
 use Rattle.index.proofs.Calls.{remove-refused, remove-absent, remove-done}
 use borrow.Author.Needs.{needs}
 use Rattle.index.proofs.remove.Statement.{statement}
 use Rattle.index.proofs.remove.Tie as tie
 
-place-to-change-requires : tie.Need-place-to-change-requires
-place-to-change-requires c κs = search needs
+-- The beginning of the call, and the place of the key, from behind the tests.
+abbrev begun : tie.After-known-told → tie.Start
+begun c = c .before .before .before .before .before .before
 
-enum-known-place : tie.Need-enum-known-place
-enum-known-place c = search needs
+stood : (c : tie.After-known-told)
+    → Stands (c .before .place .given .0 .0) (begun c .args .words .now) (begun c .args .key) (putTests (begun c .args .words .now) (begun c .args .key))
+stood c = stands _ _ _ _ (c .before .before .before .place-to-change .ensures) _ (c .before .place .given .1)
 
-enum-known-refusal : tie.Need-enum-known-refusal
-enum-known-refusal c = search needs
-
-without-store-requires : tie.Need-without-store-requires
-without-store-requires c κs = search needs
-
-same-length : tie.Need-same-length
-same-length c = search needs
+-- The slot that is chosen there, and its segment, are inside.
+chosen-at : (c : tie.After-store-word-arg)
+    → (c .before .before .slot .given .0 .0 < 64) × (c .before .before .before .before .before .before .before .place .given .0 .0 .base + 128 ≤ length (begun (c .before .before .before .before .before .before) .args .words .now))
+chosen-at c = chosen-inside (stood (c .before .before .before .before .before .before) .2) _ (c .before .before .before .before .choose-at .ensures) _ (c .before .before .slot .given .1)
 
 returns : tie.Need-returns
 returns c =
     remove-refused _ _ _ _ _ (refused-by _ _ _ _ (c .before .before .before .before .place-to-change .ensures) _ (c .before .before .refusal .given .1)) (ap saidBy (c .without-store .ensures .0), c .without-store .ensures .1)
 
-choose-at-requires : tie.Need-choose-at-requires
-choose-at-requires c κs = (stands _ _ _ _ (c .before .before .before .before .place-to-change .ensures) _ (c .before .before .place .given .1)) .2
-
-enum-known-slot : tie.Need-enum-known-slot
-enum-known-slot c = search needs
-
-without-store-requires-2 : tie.Need-without-store-requires-2
-without-store-requires-2 c κs = search needs
-
-same-length-2 : tie.Need-same-length-2
-same-length-2 c = search needs
-
 returns-2 : tie.Need-returns-2
 returns-2 c =
-    let x = stands _ _ _ _ (c .before .before .before .before .before .before .before .place-to-change .ensures) _ (c .before .before .before .before .before .place .given .1) in
+    let x = stood (c .before .before .before .before) in
     remove-absent _ _ _ _ _ x (not-chosen (x .2) (c .before .before .choose-at .result) (c .before .before .choose-at .ensures) (c .before .match2 .keys2)) (ap saidBy (c .without-store2 .ensures .0), c .without-store2 .ensures .1)
-
-mul-store-word : tie.Need-mul-store-word
-mul-store-word c =
-    let x = stands _ _ _ _ (c .before .before .before .before .before .before .before .before .before .place-to-change .ensures) _ (c .before .before .before .before .before .before .before .place .given .1) in
-    let i = chosen-inside (x .2) _ (c .before .before .before .before .choose-at .ensures) _ (c .before .before .slot .given .1) in
-    omega arith
-
-add-store-word : tie.Need-add-store-word
-add-store-word c =
-    let x = stands _ _ _ _ (c .before .before .before .before .before .before .before .before .before .place-to-change .ensures) _ (c .before .before .before .before .before .before .before .place .given .1) in
-    let i = chosen-inside (x .2) _ (c .before .before .before .before .choose-at .ensures) _ (c .before .before .slot .given .1) in
-    omega arith
-
-store-word-requires : tie.Need-store-word-requires
-store-word-requires c κs =
-    let x = stands _ _ _ _ (c .before .before .before .before .before .before .before .before .before .place-to-change .ensures) _ (c .before .before .before .before .before .before .before .place .given .1) in
-    let i = chosen-inside (x .2) _ (c .before .before .before .before .choose-at .ensures) _ (c .before .before .slot .given .1) in
-    (omega arith, omega arith)
-
-after-stores-requires : tie.Need-after-stores-requires
-after-stores-requires c κs = search needs
-
-same-length-3 : tie.Need-same-length-3
-same-length-3 c = search needs
 
 returns-3 : tie.Need-returns-3
 returns-3 c =
-    let x = stands _ _ _ _ (c .before .before .before .before .before .before .before .before .before .before .before .before .before .place-to-change .ensures) _ (c .before .before .before .before .before .before .before .before .before .before .before .place .given .1) in
+    let x = stood (c .before .before .before .before .before .before .before .before .before .before) in
     remove-done _ _ _ _ _ x _ (chosen-hit (x .2) _ (c .before .before .before .before .before .before .before .before .choose-at .ensures) _ (c .before .before .before .before .before .before .slot .given .1)) _ _ (c .before .before .before .store-word .ensures) (c .after-stores .ensures)
 
 pub remove-spec : {M : Type 1} → statement M
 remove-spec =
     tie.close
     (tie.spec
-    place-to-change-requires
-    enum-known-place
-    enum-known-refusal
-    without-store-requires
-    same-length
+    (λ c κs. search needs)
+    (λ c. search needs)
+    (λ c. search needs)
+    (λ c κs. search needs)
+    (λ c. search needs)
     returns
-    choose-at-requires
-    enum-known-slot
-    without-store-requires-2
-    same-length-2
+    (λ c κs. stood (c .before) .2)
+    (λ c. search needs)
+    (λ c κs. search needs)
+    (λ c. search needs)
     returns-2
-    mul-store-word
-    add-store-word
-    store-word-requires
-    after-stores-requires
-    same-length-3
+    (λ c. omega (arith, chosen-at c))
+    (λ c. omega (arith, chosen-at c))
+    (λ c κs. (omega (arith, chosen-at c), omega arith))
+    (λ c κs. search needs)
+    (λ c. search needs)
     returns-3)

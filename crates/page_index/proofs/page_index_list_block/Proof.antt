@@ -1,24 +1,11 @@
 -- `page_index::page_index_list_block` meets its contract.
--- Assumes nothing.
 use borrow.Author.Needs.{needs}
 use Rattle.page_index.proofs.Tellings.{told-block}
 use Rattle.page_index.proofs.page_index_list_block.Statement.{statement}
 use Rattle.page_index.proofs.page_index_list_block.Tie as tie
 
-list-block-requires : tie.Need-list-block-requires
-list-block-requires c κs = search needs
-
-next-told-requires : tie.Need-next-told-requires
-next-told-requires c κs = search needs
-
-told-requires : tie.Need-told-requires
-told-requires c κs = search needs
-
-same-length : tie.Need-same-length
-same-length c = search needs
-
 returns : tie.Need-returns
 returns c = told-block (c .told .ensures) (c .before .before .before .before .before .list-block .ensures) (c .before .next-told .ensures)
 
 pub page-index-list-block-spec : {M : Type 1} → statement M
-page-index-list-block-spec = tie.close (tie.spec list-block-requires next-told-requires told-requires same-length returns)
+page-index-list-block-spec = tie.close (tie.spec (λ c κs. search needs) (λ c κs. search needs) (λ c κs. search needs) (λ c. search needs) returns)

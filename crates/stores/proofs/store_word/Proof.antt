@@ -1,5 +1,4 @@
 -- `stores::store_word` meets its contract.
--- Assumes nothing.
 use borrow.Author.Needs.{needs}
 use mathlib.Core.Path.{sym}
 use mathlib.Core.List.{[], _∷_}
@@ -10,27 +9,12 @@ use Rattle.stores.proofs.store_word.Tie as tie
 use Rattle.stores.proofs.store_word.Reads as reads
 use Rattle.stores.proofs.store_word.Lts as lts
 
-mul-words : tie.Need-mul-words
-mul-words c = search needs
-
-slice-write-words : tie.Need-slice-write-words
-slice-write-words c = search needs
-
-add-result : tie.Need-add-result
-add-result c = search needs
-
-same-length : tie.Need-same-length
-same-length c = search needs
-
 returns : tie.Need-returns
 returns c =
     record {
       count = search needs;
       words = sym (exec-made (store (c .before .args .at) (c .before .args .value)) _ (c .before .args .words .now) (search needs));
     }
-
-add-result-2 : tie.Need-add-result-2
-add-result-2 c = search needs
 
 returns-2 : tie.Need-returns-2
 returns-2 c =
@@ -42,4 +26,4 @@ returns-2 c =
 pub store-word-spec : {M : Type 1} → statement M
 store-word-spec =
     tie.close
-    (tie.spec mul-words slice-write-words add-result same-length returns add-result-2 returns-2)
+    (tie.spec (λ c. search needs) (λ c. search needs) (λ c. search needs) (λ c. search needs) returns (λ c. search needs) returns-2)

@@ -1,55 +1,22 @@
--- `test_desk::is_equal` is safe and ends. The invariant: the position is within both parts. Assumes nothing.
+-- `test_desk::is_equal` is safe and ends. The invariant: the position is within both parts.
 use Prim.Native.Nat.{_-_, _≤_}
 use lib.ListN.{length}
 use borrow.Author.Needs.{needs}
 use Rattle.test_desk.proofs.is_equal.Statement.{statement}
 use Rattle.test_desk.proofs.is_equal.Tie as tie
 
-abbrev Inv-loop : tie.InvT-loop
-Inv-loop a b i₀ i-end i = (i ≤ i-end) × (i-end ≤ length a) × (i-end ≤ length b)
-
-abbrev μ-loop : tie.MeasureT-loop
-μ-loop a b i₀ i-end i = i-end - i
-
-returns : tie.Need-returns Inv-loop μ-loop
-returns c = search needs
-
-loop-holds : tie.Need-loop-holds Inv-loop μ-loop
-loop-holds c = search needs
-
-shared-slice-read-if2 : tie.Need-shared-slice-read-if2 Inv-loop μ-loop
-shared-slice-read-if2 c = search needs
-
-shared-slice-read-if2-2 : tie.Need-shared-slice-read-if2-2 Inv-loop μ-loop
-shared-slice-read-if2-2 c = search needs
-
-returns-2 : tie.Need-returns-2 Inv-loop μ-loop
-returns-2 c = search needs
-
-add-i : tie.Need-add-i Inv-loop μ-loop
-add-i c = search needs
-
-loop-less : tie.Need-loop-less Inv-loop μ-loop
-loop-less c = search needs
-
-loop-again : tie.Need-loop-again Inv-loop μ-loop
-loop-again c = search needs
-
-returns-3 : tie.Need-returns-3 Inv-loop μ-loop
-returns-3 c = search needs
-
 pub is-equal-spec : {M : Type 1} → statement M
 is-equal-spec =
     tie.close
     (tie.spec
-    Inv-loop
-    μ-loop
-    returns
-    loop-holds
-    shared-slice-read-if2
-    shared-slice-read-if2-2
-    returns-2
-    add-i
-    loop-less
-    loop-again
-    returns-3)
+    (λ a b i₀ i-end i. (i ≤ i-end) × (i-end ≤ length a) × (i-end ≤ length b))
+    (λ a b i₀ i-end i. i-end - i)
+    (λ c. search needs)
+    (λ c. search needs)
+    (λ c. search needs)
+    (λ c. search needs)
+    (λ c. search needs)
+    (λ c. search needs)
+    (λ c. search needs)
+    (λ c. search needs)
+    (λ c. search needs))

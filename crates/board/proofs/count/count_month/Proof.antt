@@ -1,5 +1,4 @@
 -- `board::count::count_month` meets its contract. The invariant: the jobs below `number` are counted.
--- Assumes nothing.
 use Prim.Native.Nat.{_-_, _≤_}
 use mathlib.Core.Path.{_≡_}
 use native.Mathlib.Numerals.{add-one}
@@ -25,9 +24,6 @@ loop-holds c = (omega arith, counted-start _)
 count-job-requires : tie.Need-count-job-requires Inv-loop μ-loop
 count-job-requires c κs = (c .before .before .before .pre .0, c .before .before .before .pre .1, c .before .before .before .pre .2, omega (arith, c .loop-test .taken))
 
-enum-known-more : tie.Need-enum-known-more Inv-loop μ-loop
-enum-known-more c = search needs
-
 add-bytes : tie.Need-add-bytes Inv-loop μ-loop
 add-bytes c =
     let more = counted-bytes _ _ _ (c .before .before .before .count-job .ensures) (c .before .more .given .1) in
@@ -39,19 +35,10 @@ add-bytes c =
       job-short (c .before .before .before .before .before .before .before .args .words .now) (c .before .before .before .before .before .before .before .args .year) (c .before .before .before .before .before .before .before .args .month) (c .before .before .before .before .before .loop .number) (c .before .before .before .before .before .before .before .pre .1) (c .before .before .before .before .before .before .before .pre .2),
     )
 
-enum-known-refusal : tie.Need-enum-known-refusal Inv-loop μ-loop
-enum-known-refusal c = search needs
-
 returns : tie.Need-returns Inv-loop μ-loop
 returns c =
     rw (month-each _ _ _)
     (counted-stops _ _ _ (c .before .refusal .given .0 .0) 4096 (c .before .before .before .before .loop-test .taken) (c .before .before .before .before .before .loop .inv .1) (counted-refusal _ _ _ (c .before .before .before .count-job .ensures) (c .before .refusal .given .1)))
-
-add-number : tie.Need-add-number Inv-loop μ-loop
-add-number c = search needs
-
-loop-less : tie.Need-loop-less Inv-loop μ-loop
-loop-less c = search needs
 
 loop-again : tie.Need-loop-again Inv-loop μ-loop
 loop-again c = (
@@ -73,11 +60,11 @@ count-month-spec =
     μ-loop
     loop-holds
     count-job-requires
-    enum-known-more
+    (λ c. search needs)
     add-bytes
-    enum-known-refusal
+    (λ c. search needs)
     returns
-    add-number
-    loop-less
+    (λ c. search needs)
+    (λ c. search needs)
     loop-again
     returns-2)

@@ -1,5 +1,4 @@
 -- `board::count::count_year` meets its contract. The invariant: the months before `month` + 1 are counted.
--- Assumes nothing.
 use Prim.Native.Nat.{_+_, _-_, _≤_}
 use mathlib.Core.Path.{_≡_}
 use native.Mathlib.Numerals.{add-one}
@@ -22,14 +21,8 @@ abbrev μ-loop : tie.MeasureT-loop
 loop-holds : tie.Need-loop-holds Inv-loop μ-loop
 loop-holds c = (omega arith, counted-start _)
 
-add-count-month : tie.Need-add-count-month Inv-loop μ-loop
-add-count-month c = search needs
-
 count-month-requires : tie.Need-count-month-requires Inv-loop μ-loop
 count-month-requires c κs = (c .before .before .before .pre, omega arith, omega (arith, c .loop-test .taken))
-
-enum-known-more : tie.Need-enum-known-more Inv-loop μ-loop
-enum-known-more c = search needs
 
 add-bytes : tie.Need-add-bytes Inv-loop μ-loop
 add-bytes c =
@@ -43,19 +36,10 @@ add-bytes c =
       month-short (c .before .before .before .before .before .before .before .args .words .now) (c .before .before .before .before .before .before .before .args .year) (c .before .before .before .before .before .loop .month + 1) (omega arith) (omega (arith, c .before .before .before .before .loop-test .taken)),
     )
 
-enum-known-refusal : tie.Need-enum-known-refusal Inv-loop μ-loop
-enum-known-refusal c = search needs
-
 returns : tie.Need-returns Inv-loop μ-loop
 returns c =
     rw (year-each _ _)
     (counted-stops _ _ _ (c .before .refusal .given .0 .0) 12 (c .before .before .before .before .loop-test .taken) (c .before .before .before .before .before .loop .inv .1) (counted-refusal _ _ _ (rw (add-one (c .before .before .before .before .before .loop .month)) at (c .before .before .before .count-month .ensures)) (c .before .refusal .given .1)))
-
-add-month : tie.Need-add-month Inv-loop μ-loop
-add-month c = search needs
-
-loop-less : tie.Need-loop-less Inv-loop μ-loop
-loop-less c = search needs
 
 loop-again : tie.Need-loop-again Inv-loop μ-loop
 loop-again c = (
@@ -76,13 +60,13 @@ count-year-spec =
     Inv-loop
     μ-loop
     loop-holds
-    add-count-month
+    (λ c. search needs)
     count-month-requires
-    enum-known-more
+    (λ c. search needs)
     add-bytes
-    enum-known-refusal
+    (λ c. search needs)
     returns
-    add-month
-    loop-less
+    (λ c. search needs)
+    (λ c. search needs)
     loop-again
     returns-2)

@@ -1,5 +1,4 @@
 -- `board::job::key_of` meets its contract.
--- Assumes nothing.
 use mathlib.Core.Path.{sym, _∙_}
 use borrow.Author.Needs.{needs}
 use borrow.Author.Tests.{not-true, not-false}
@@ -7,21 +6,12 @@ use Rattle.board.proofs.Jobs.{year-bounds, month-bounds, number-bound, 
 use Rattle.board.proofs.job.key_of.Statement.{statement}
 use Rattle.board.proofs.job.key_of.Tie as tie
 
-valid-year-requires : tie.Need-valid-year-requires
-valid-year-requires c κs = search needs
-
 returns : tie.Need-returns
 returns c = bad-year _ _ _ (sym (c .before .valid-year .ensures) ∙ not-true _ (c .if1 .taken))
-
-valid-month-requires : tie.Need-valid-month-requires
-valid-month-requires c κs = search needs
 
 returns-2 : tie.Need-returns-2
 returns-2 c =
     bad-month _ _ _ (sym (c .before .before .before .valid-year .ensures) ∙ not-false _ (c .before .before .if1 .left)) (sym (c .before .valid-month .ensures) ∙ not-true _ (c .if2 .taken))
-
-valid-number-requires : tie.Need-valid-number-requires
-valid-number-requires c κs = search needs
 
 returns-3 : tie.Need-returns-3
 returns-3 c =
@@ -48,11 +38,11 @@ pub key-of-spec : {M : Type 1} → statement M
 key-of-spec =
     tie.close
     (tie.spec
-    valid-year-requires
+    (λ c κs. search needs)
     returns
-    valid-month-requires
+    (λ c κs. search needs)
     returns-2
-    valid-number-requires
+    (λ c κs. search needs)
     returns-3
     job-key-requires
     returns-4)

@@ -1,5 +1,4 @@
 -- `board::job::valid_month` meets its contract.
--- Assumes nothing.
 use borrow.Author.Tests.{le-leb, lt-leb}
 use Rattle.board.specs.Jobs.{validMonth}
 use Rattle.board.proofs.job.valid_month.Statement.{statement}

@@ -1,5 +1,4 @@
 -- `board::job::valid_number` meets its contract.
--- Assumes nothing.
 use mathlib.Core.Path.{refl}
 use Rattle.board.specs.Jobs.{validNumber}
 use Rattle.board.proofs.job.valid_number.Statement.{statement}

@@ -1,5 +1,4 @@
 -- `board::job::valid_year` meets its contract.
--- Assumes nothing.
 use borrow.Author.Tests.{le-leb, lt-leb}
 use Rattle.board.specs.Jobs.{validYear}
 use Rattle.board.proofs.job.valid_year.Statement.{statement}

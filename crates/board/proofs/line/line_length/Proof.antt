@@ -1,5 +1,4 @@
 -- `board::line::line_length` meets its contract.
--- Assumes nothing.
 use mathlib.Core.Path.{sym}
 use native.Mathlib.Omega.{arith}
 use borrow.Author.Needs.{needs}
@@ -7,15 +6,6 @@ use Rattle.text.proofs.Digits.{length-decimal}
 use Rattle.board.proofs.Lines.{length-line}
 use Rattle.board.proofs.line.line_length.Statement.{statement}
 use Rattle.board.proofs.line.line_length.Tie as tie
-
-decimal-length-requires : tie.Need-decimal-length-requires
-decimal-length-requires c κs = search needs
-
-add-result : tie.Need-add-result
-add-result c = omega (arith, c .decimal-length .ensures, length-decimal (c .before .args .number))
-
-decimal-length-requires-2 : tie.Need-decimal-length-requires-2
-decimal-length-requires-2 c κs = search needs
 
 add-result-2 : tie.Need-add-result-2
 add-result-2 c =
@@ -29,4 +19,9 @@ returns c =
 pub line-length-spec : {M : Type 1} → statement M
 line-length-spec =
     tie.close
-    (tie.spec decimal-length-requires add-result decimal-length-requires-2 add-result-2 returns)
+    (tie.spec
+    (λ c κs. search needs)
+    (λ c. omega (arith, c .decimal-length .ensures, length-decimal (c .before .args .number)))
+    (λ c κs. search needs)
+    add-result-2
+    returns)

@@ -1,5 +1,4 @@
 -- `board::line::write_line` meets its contract.
--- Assumes nothing.
 use native.Mathlib.Omega.{arith}
 use borrow.Author.Needs.{needs}
 use Rattle.board.proofs.Lines.{length-line-of, line-written}
@@ -16,31 +15,33 @@ write-field-requires c κs =
 
 write-field-requires-2 : tie.Need-write-field-requires-2
 write-field-requires-2 c κs =
+    let start = c .before .before .before .before .before .before .before .before .before .before in
     omega (
       arith,
-      length-line-of (c .before .before .before .before .before .before .before .before .before .before .args .name) (c .before .before .before .before .before .before .before .before .before .before .args .number) (c .before .before .before .before .before .before .before .before .before .before .args .pages),
-      c .before .before .before .before .before .before .before .before .before .before .pre,
+      length-line-of (start .args .name) (start .args .number) (start .args .pages),
+      start .pre,
       c .before .before .before .before .before .before .before .write-name .ensures .behind,
       c .before .before .before .write-field .ensures .behind,
     )
 
 write-byte-requires : tie.Need-write-byte-requires
 write-byte-requires c κs =
+    let at-write-name = c .before .before .before .before .before .before .before .before .before .before .before in
+    let start = at-write-name .before .before .before in
     omega (
       arith,
-      length-line-of (c .before .before .before .before .before .before .before .before .before .before .before .before .before .before .args .name) (c .before .before .before .before .before .before .before .before .before .before .before .before .before .before .args .number) (c .before .before .before .before .before .before .before .before .before .before .before .before .before .before .args .pages),
-      c .before .before .before .before .before .before .before .before .before .before .before .before .before .before .pre,
-      c .before .before .before .before .before .before .before .before .before .before .before .write-name .ensures .behind,
+      length-line-of (start .args .name) (start .args .number) (start .args .pages),
+      start .pre,
+      at-write-name .write-name .ensures .behind,
       c .before .before .before .before .before .before .before .write-field .ensures .behind,
       c .before .before .before .write-field2 .ensures .behind,
     )
 
-same-length : tie.Need-same-length
-same-length c = search needs
-
 returns : tie.Need-returns
 returns c =
-    line-written _ _ (omega (arith, c .before .before .before .before .before .before .before .before .before .before .before .before .before .before .before .before .before .pre)) _ _ _ _ _ _ _ _ _ _ _ (c .before .before .before .before .before .before .before .before .before .before .before .before .before .before .write-name .ensures) (c .before .before .before .before .before .before .before .before .before .before .write-field .ensures) (c .before .before .before .before .before .before .write-field2 .ensures) (c .before .before .write-byte .ensures)
+    let at-write-field = c .before .before .before .before .before .before .before .before .before .before in
+    let at-write-name = at-write-field .before .before .before .before in
+    line-written _ _ (omega (arith, at-write-name .before .before .before .pre)) _ _ _ _ _ _ _ _ _ _ _ (at-write-name .write-name .ensures) (at-write-field .write-field .ensures) (c .before .before .before .before .before .before .write-field2 .ensures) (c .before .before .write-byte .ensures)
 
 pub write-line-spec : {M : Type 1} → statement M
 write-line-spec =
@@ -50,5 +51,5 @@ write-line-spec =
     write-field-requires
     write-field-requires-2
     write-byte-requires
-    same-length
+    (λ c. search needs)
     returns)

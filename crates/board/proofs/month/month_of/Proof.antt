@@ -1,19 +1,9 @@
 -- `board::month::month_of` meets its contract.
--- Assumes nothing.
 use mathlib.Core.Path.{refl}
 use borrow.Author.Needs.{needs}
 use Rattle.board.specs.Print.{monthName}
 use Rattle.board.proofs.month.month_of.Statement.{statement}
 use Rattle.board.proofs.month.month_of.Tie as tie
-
-sub-m : tie.Need-sub-m
-sub-m c = search needs
-
-mul-t18 : tie.Need-mul-t18
-mul-t18 c = search needs
-
-array-copy-out-t21 : tie.Need-array-copy-out-t21
-array-copy-out-t21 c = search needs
 
 returns : tie.Need-returns
 unfolding monthName
@@ -29,4 +19,4 @@ returns c = (
 )
 
 pub month-of-spec : {M : Type 1} → statement M
-month-of-spec = tie.close (tie.spec sub-m mul-t18 array-copy-out-t21 returns)
+month-of-spec = tie.close (tie.spec (λ c. search needs) (λ c. search needs) (λ c. search needs) returns)

@@ -1,5 +1,4 @@
 -- `board::write::write_job` meets its contract.
--- Assumes nothing.
 use mathlib.Core.Path.{ap}
 use native.Mathlib.Omega.{arith}
 use borrow.Author.Needs.{needs}
@@ -12,12 +11,6 @@ use Rattle.board.proofs.write.write_job.Tie as tie
 job-key-requires : tie.Need-job-key-requires
 job-key-requires c κs = (c .before .before .pre .0 .year-high, c .before .before .pre .0 .month-high, c .before .before .pre .1)
 
-get-requires : tie.Need-get-requires
-get-requires c κs = search needs
-
-enum-known-reply : tie.Need-enum-known-reply
-enum-known-reply c = search needs
-
 returns : tie.Need-returns
 returns c =
     let e = lines-none _ _ _ _ (c .before .get .result .reply) (got _ _ _ _ _ _ _ (c .before .before .job-key .ensures) (c .before .get .ensures)) (c .match .keys2) in
@@ -25,15 +18,14 @@ returns c =
 
 write-line-requires : tie.Need-write-line-requires
 write-line-requires c κs =
-    let e = line-found _ _ _ _ _ (got _ _ _ _ _ _ _ (c .before .before .before .before .before .before .job-key .ensures) (c .before .before .before .before .before .get .ensures)) _ _ (c .before .before .before .reply .given .1) (c .before .before .before .before .before .before .before .before .before .pre .0 .name-is) in
-    omega (arith, ap length e, c .before .before .before .before .before .before .before .before .before .pre .2)
-
-same-length : tie.Need-same-length
-same-length c = search needs
+    let start = c .before .before .before .before .before .before .before .before .before in
+    let e = line-found _ _ _ _ _ (got _ _ _ _ _ _ _ (c .before .before .before .before .before .before .job-key .ensures) (c .before .before .before .before .before .get .ensures)) _ _ (c .before .before .before .reply .given .1) (start .pre .0 .name-is) in
+    omega (arith, ap length e, start .pre .2)
 
 returns-2 : tie.Need-returns-2
 returns-2 c =
-    let e = line-found _ _ _ _ _ (got _ _ _ _ _ _ _ (c .before .before .before .before .before .before .before .before .before .job-key .ensures) (c .before .before .before .before .before .before .before .before .get .ensures)) _ _ (c .before .before .before .before .before .before .reply .given .1) (c .before .before .before .before .before .before .before .before .before .before .before .before .pre .0 .name-is) in
+    let at-job-key = c .before .before .before .before .before .before .before .before .before in
+    let e = line-found _ _ _ _ _ (got _ _ _ _ _ _ _ (at-job-key .job-key .ensures) (c .before .before .before .before .before .before .before .before .get .ensures)) _ _ (c .before .before .before .before .before .before .reply .given .1) (at-job-key .before .before .before .pre .0 .name-is) in
     rw e (c .before .before .write-line .ensures)
 
 pub write-job-spec : {M : Type 1} → statement M
@@ -41,9 +33,9 @@ write-job-spec =
     tie.close
     (tie.spec
     job-key-requires
-    get-requires
-    enum-known-reply
+    (λ c κs. search needs)
+    (λ c. search needs)
     returns
     write-line-requires
-    same-length
+    (λ c. search needs)
     returns-2)

@@ -1,5 +1,4 @@
 -- `board::write::write_month` meets its contract. The invariant: the lines of the jobs below `number` are written.
--- Assumes nothing.
 use Prim.Native.Nat.{_-_, _≤_}
 use mathlib.Core.Path.{_≡_, refl}
 use native.Mathlib.Numerals.{add-one}
@@ -20,9 +19,6 @@ Inv-loop words year month buffer₀ at month′ next₀ number₀ buffer next nu
 abbrev μ-loop : tie.MeasureT-loop
 μ-loop words year month buffer₀ at month′ next₀ number₀ buffer next number = 4096 - number
 
-month-of-requires : tie.Need-month-of-requires Inv-loop μ-loop
-month-of-requires c κs = search needs
-
 loop-holds : tie.Need-loop-holds Inv-loop μ-loop
 loop-holds c = (omega arith, refl, written-start _ _ _)
 
@@ -35,12 +31,6 @@ write-job-requires c κs =
       rw (c .before .before .before .month-of .ensures .0, c .before .before .before .month-of .ensures .1) fits,
     )
 
-add-number : tie.Need-add-number Inv-loop μ-loop
-add-number c = search needs
-
-loop-less : tie.Need-loop-less Inv-loop μ-loop
-loop-less c = search needs
-
 loop-again : tie.Need-loop-again Inv-loop μ-loop
 loop-again c =
     let one = rw (c .before .before .before .before .before .before .month-of .ensures .0, c .before .before .before .before .before .before .month-of .ensures .1) at (c .before .before .write-job .ensures) in (
@@ -49,9 +39,6 @@ loop-again c =
       rw (add-one (c .before .before .before .before .before .loop .number))
           (written-turn _ _ _ _ _ _ _ _ (omega (arith, c .before .before .before .before .before .before .before .before .before .pre .3)) (c .before .before .before .before .before .loop .inv .2) one),
     )
-
-same-length : tie.Need-same-length Inv-loop μ-loop
-same-length c = search needs
 
 returns : tie.Need-returns Inv-loop μ-loop
 returns c =
@@ -64,11 +51,11 @@ write-month-spec =
     (tie.spec
     Inv-loop
     μ-loop
-    month-of-requires
+    (λ c κs. search needs)
     loop-holds
     write-job-requires
-    add-number
-    loop-less
+    (λ c. search needs)
+    (λ c. search needs)
     loop-again
-    same-length
+    (λ c. search needs)
     returns)

@@ -1,5 +1,4 @@
 -- `board::write::write_year` meets its contract. The invariant: the lines of the months before `month` + 1 are written.
--- Assumes nothing.
 use Prim.Native.Nat.{_-_, _≤_}
 use mathlib.Core.Path.{_≡_, refl}
 use native.Mathlib.Numerals.{add-one}
@@ -23,9 +22,6 @@ abbrev μ-loop : tie.MeasureT-loop
 loop-holds : tie.Need-loop-holds Inv-loop μ-loop
 loop-holds c = (omega arith, refl, written-start _ _ _)
 
-add-write-month : tie.Need-add-write-month Inv-loop μ-loop
-add-write-month c = search needs
-
 write-month-requires : tie.Need-write-month-requires Inv-loop μ-loop
 write-month-requires c κs =
     let all = rw (year-each _ _) at (c .before .before .before .before .before .pre .1) in (
@@ -36,12 +32,6 @@ write-month-requires c κs =
           (turn-fits _ _ 12 _ _ _ _ (c .before .loop-test .taken) (c .before .before .loop .inv .1) (c .before .before .loop .inv .2) all),
     )
 
-add-month : tie.Need-add-month Inv-loop μ-loop
-add-month c = search needs
-
-loop-less : tie.Need-loop-less Inv-loop μ-loop
-loop-less c = search needs
-
 loop-again : tie.Need-loop-again Inv-loop μ-loop
 loop-again c =
     let one = rw (add-one (c .before .before .before .before .before .loop .month)) at (c .before .before .write-month .ensures) in (
@@ -49,9 +39,6 @@ loop-again c =
       search needs,
       rw (add-one (c .before .before .before .before .before .loop .month)) (written-turn _ _ _ _ _ _ _ _ (omega arith) (c .before .before .before .before .before .loop .inv .2) one),
     )
-
-same-length : tie.Need-same-length Inv-loop μ-loop
-same-length c = search needs
 
 returns : tie.Need-returns Inv-loop μ-loop
 returns c =
@@ -65,10 +52,10 @@ write-year-spec =
     Inv-loop
     μ-loop
     loop-holds
-    add-write-month
+    (λ c. search needs)
     write-month-requires
-    add-month
-    loop-less
+    (λ c. search needs)
+    (λ c. search needs)
     loop-again
-    same-length
+    (λ c. search needs)
     returns)

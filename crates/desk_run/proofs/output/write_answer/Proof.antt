@@ -1,5 +1,4 @@
 -- `desk_run::output::write_answer` meets its contract.
--- Assumes nothing.
 use Prim.Native.Nat.{_+_}
 use mathlib.Core.List.{[], _∷_, _++_}
 use native.Mathlib.Omega.{arith}
@@ -15,39 +14,33 @@ use Rattle.desk_text.proofs.Texts.{length-reply}
 use Rattle.desk_run.proofs.output.write_answer.Statement.{statement}
 use Rattle.desk_run.proofs.output.write_answer.Tie as tie
 
-cast-stores : tie.Need-cast-stores
-cast-stores c = search needs
-
-write-head-requires : tie.Need-write-head-requires
-write-head-requires c κs = search needs
-
 write-field-requires : tie.Need-write-field-requires
 write-field-requires c κs =
     omega (arith, length-reply (c .before .before .before .before .before .before .before .args .answer .reply), length-decimal (c .before .before .before .before .before .before .before .args .answer .stores), c .before .before .before .write-head .ensures .behind)
 
 write-end-requires : tie.Need-write-end-requires
 write-end-requires c κs =
-    omega (arith, length-reply (c .before .before .before .before .before .before .before .before .before .before .before .args .answer .reply), length-decimal (c .before .before .before .before .before .before .before .before .before .before .before .args .answer .stores), c .before .before .before .before .before .before .before .write-head .ensures .behind, c .before .before .before .write-field .ensures .behind)
-
-same-length : tie.Need-same-length
-same-length c = search needs
+    let start = c .before .before .before .before .before .before .before .before .before .before .before in
+    omega (arith, length-reply (start .args .answer .reply), length-decimal (start .args .answer .stores), c .before .before .before .before .before .before .before .write-head .ensures .behind, c .before .before .before .write-field .ensures .behind)
 
 returns : tie.Need-returns
 unfolding answerLine
 returns c =
-    let said = saidBy (c .before .before .before .before .before .before .before .before .before .before .before .before .before .before .args .answer .reply) in
-    rw (append-assoc (headText (c .before .before .before .before .before .before .before .before .before .before .before .before .before .before .args .letter) said ++ (tab ∷ decimal (c .before .before .before .before .before .before .before .before .before .before .before .before .before .before .args .answer .stores))) (saidText said) (lineFeed ∷ []))
-    (written-append (headText (c .before .before .before .before .before .before .before .before .before .before .before .before .before .before .args .letter) said ++ (tab ∷ decimal (c .before .before .before .before .before .before .before .before .before .before .before .before .before .before .args .answer .stores))) (endText said) _ _ _ _ _ _ (search needs)
-    (written-append (headText (c .before .before .before .before .before .before .before .before .before .before .before .before .before .before .args .letter) said) (tab ∷ decimal (c .before .before .before .before .before .before .before .before .before .before .before .before .before .before .args .answer .stores)) _ _ _ _ _ _ (search needs) (c .before .before .before .before .before .before .before .before .before .before .write-head .ensures) (c .before .before .before .before .before .before .write-field .ensures))
+    let at-write-head = c .before .before .before .before .before .before .before .before .before .before in
+    let start = at-write-head .before .before .before .before in
+    let said = saidBy (start .args .answer .reply) in
+    rw (append-assoc (headText (start .args .letter) said ++ (tab ∷ decimal (start .args .answer .stores))) (saidText said) (lineFeed ∷ []))
+    (written-append (headText (start .args .letter) said ++ (tab ∷ decimal (start .args .answer .stores))) (endText said) _ _ _ _ _ _ (search needs)
+    (written-append (headText (start .args .letter) said) (tab ∷ decimal (start .args .answer .stores)) _ _ _ _ _ _ (search needs) (at-write-head .write-head .ensures) (c .before .before .before .before .before .before .write-field .ensures))
     (c .before .before .write-end .ensures))
 
 pub write-answer-spec : {M : Type 1} → statement M
 write-answer-spec =
     tie.close
     (tie.spec
-    cast-stores
-    write-head-requires
+    (λ c. search needs)
+    (λ c κs. search needs)
     write-field-requires
     write-end-requires
-    same-length
+    (λ c. search needs)
     returns)

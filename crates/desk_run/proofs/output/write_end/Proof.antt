@@ -1,5 +1,4 @@
 -- `desk_run::output::write_end` meets its contract.
--- Assumes nothing.
 use mathlib.Core.List.{[], _∷_}
 use native.Mathlib.Omega.{arith}
 use borrow.Author.Needs.{needs}
@@ -9,15 +8,6 @@ use Rattle.text.proofs.Digits.{length-decimal}
 use Rattle.desk_text.proofs.Texts.{end-value, end-plain}
 use Rattle.desk_run.proofs.output.write_end.Statement.{statement}
 use Rattle.desk_run.proofs.output.write_end.Tie as tie
-
-enum-known-reply : tie.Need-enum-known-reply
-enum-known-reply c = search needs
-
-write-byte-requires : tie.Need-write-byte-requires
-write-byte-requires c κs = search needs
-
-same-length : tie.Need-same-length
-same-length c = search needs
 
 returns : tie.Need-returns
 returns c =
@@ -31,23 +21,21 @@ write-byte-requires-2 : tie.Need-write-byte-requires-2
 write-byte-requires-2 c κs =
     omega (arith, length-decimal (c .before .before .before .before .before .before .reply .given .0 .0), c .before .before .before .write-field .ensures .behind)
 
-same-length-2 : tie.Need-same-length-2
-same-length-2 c = search needs
-
 returns-2 : tie.Need-returns-2
 returns-2 c =
-    rw (c .before .before .before .before .before .before .before .before .before .reply .given .1, end-value (c .before .before .before .before .before .before .before .before .before .reply .given .0 .0))
+    let at-reply = c .before .before .before .before .before .before .before .before .before in
+    rw (at-reply .reply .given .1, end-value (at-reply .reply .given .0 .0))
     (written-append (_ ∷ decimal _) (_ ∷ []) _ _ _ _ _ _ (search needs) (c .before .before .before .before .before .before .write-field .ensures) (c .before .before .write-byte2 .ensures))
 
 pub write-end-spec : {M : Type 1} → statement M
 write-end-spec =
     tie.close
     (tie.spec
-    enum-known-reply
-    write-byte-requires
-    same-length
+    (λ c. search needs)
+    (λ c κs. search needs)
+    (λ c. search needs)
     returns
     write-field-requires
     write-byte-requires-2
-    same-length-2
+    (λ c. search needs)
     returns-2)

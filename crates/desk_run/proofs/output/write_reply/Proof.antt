@@ -1,5 +1,4 @@
 -- `desk_run::output::write_reply` meets its contract.
--- Assumes nothing.
 use Prim.Native.Nat.{_≤_}
 use lib.ListN.{length}
 use native.Mathlib.Omega.{arith}
@@ -9,46 +8,19 @@ use Rattle.desk_text.proofs.Texts.{length-refusal, reply-done}
 use Rattle.desk_run.proofs.output.write_reply.Statement.{statement}
 use Rattle.desk_run.proofs.output.write_reply.Tie as tie
 
-enum-told : tie.Need-enum-told
-enum-told c = search needs
-
-write-byte-requires : tie.Need-write-byte-requires
-write-byte-requires c κs = search needs
-
-enum-known-reply : tie.Need-enum-known-reply
-enum-known-reply c = search needs
-
-refusal-number-requires : tie.Need-refusal-number-requires
-refusal-number-requires c κs = search needs
-
-cast-write-decimal : tie.Need-cast-write-decimal
-cast-write-decimal c = search needs
-
 write-decimal-requires : tie.Need-write-decimal-requires
 write-decimal-requires c κs =
     let number = c .before .refusal-number .ensures in
     let two : length (decimal (c .before .refusal-number .result)) ≤ 2 = rw number (length-refusal (c .before .before .before .reply .given .0 .0)) in
     omega arith
 
-write-byte-requires-2 : tie.Need-write-byte-requires-2
-write-byte-requires-2 c κs = search needs
-
-same-length : tie.Need-same-length
-same-length c = search needs
-
 returns : tie.Need-returns
 returns c =
     rw (c .before .before .before .before .enum-told .given .1) (c .before .before .write-byte .ensures)
 
-same-length-2 : tie.Need-same-length-2
-same-length-2 c = search needs
-
 returns-2 : tie.Need-returns-2
 returns-2 c =
     rw (c .before .before .before .before .before .before .reply .given .1, ← (c .before .before .before .before .refusal-number .ensures)) (c .before .before .write-decimal .ensures)
-
-same-length-3 : tie.Need-same-length-3
-same-length-3 c = search needs
 
 returns-3 : tie.Need-returns-3
 returns-3 c =
@@ -58,16 +30,16 @@ pub write-reply-spec : {M : Type 1} → statement M
 write-reply-spec =
     tie.close
     (tie.spec
-    enum-told
-    write-byte-requires
-    enum-known-reply
-    refusal-number-requires
-    cast-write-decimal
+    (λ c. search needs)
+    (λ c κs. search needs)
+    (λ c. search needs)
+    (λ c κs. search needs)
+    (λ c. search needs)
     write-decimal-requires
-    write-byte-requires-2
-    same-length
+    (λ c κs. search needs)
+    (λ c. search needs)
     returns
-    same-length-2
+    (λ c. search needs)
     returns-2
-    same-length-3
+    (λ c. search needs)
     returns-3)

@@ -1,5 +1,4 @@
 -- `desk_text::line::call_of_none` meets its contract.
--- Assumes nothing.
 use borrow.Author.Tests.{eq-eqb, ne-eqb}
 use Rattle.desk_text.specs.Line.{callWith}
 use Rattle.desk_text.proofs.line.call_of_none.Statement.{statement}

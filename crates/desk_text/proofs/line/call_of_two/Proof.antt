@@ -1,5 +1,4 @@
 -- `desk_text::line::call_of_two` meets its contract.
--- Assumes nothing.
 use borrow.Author.Tests.{eq-eqb, ne-eqb, lt-ltb, le-ltb}
 use borrow.Author.Needs.{needs}
 use Rattle.desk_text.specs.Line.{callWith, allowed}

@@ -1,5 +1,4 @@
 -- `index::answer::after_stores` meets its contract.
--- Assumes nothing.
 use mathlib.Core.Path.{sym}
 use native.Mathlib.Nat.{min-eq-left, min-eq-right, le-of-lt}
 use borrow.Author.Tests.{le-leb, lt-leb}

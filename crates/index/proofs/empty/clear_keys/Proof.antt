@@ -1,5 +1,4 @@
 -- `index::empty::clear_keys` meets its contract.
--- Assumes nothing.
 use borrow.Author.Needs.{needs}
 use native.Mathlib.Omega.{arith}
 use mathlib.Core.Path.{_≡_, _∙_}
@@ -31,21 +30,6 @@ abbrev μ-loop : tie.MeasureT-loop
 loop-holds : tie.Need-loop-holds Inv-loop μ-loop
 loop-holds c = (omega arith, omega arith, search needs, before-loop (cleared (c .before .args .base)) _ _ _)
 
-mul-store-word : tie.Need-mul-store-word Inv-loop μ-loop
-mul-store-word c = search needs
-
-add-store-word : tie.Need-add-store-word Inv-loop μ-loop
-add-store-word c = search needs
-
-store-word-requires : tie.Need-store-word-requires Inv-loop μ-loop
-store-word-requires c κs = search needs
-
-add-slot : tie.Need-add-slot Inv-loop μ-loop
-add-slot c = search needs
-
-loop-less : tie.Need-loop-less Inv-loop μ-loop
-loop-less c = search needs
-
 loop-again : tie.Need-loop-again Inv-loop μ-loop
 loop-again c =
     let i = c .before .before .before .before .before .loop .inv in
@@ -55,9 +39,6 @@ loop-again c =
       executed-length p ∙ i .2,
       after-turn (cleared (c .before .before .before .before .before .before .before .args .base)) _ _ _ _ _ _ _ _ (i .3) p,
     )
-
-same-length : tie.Need-same-length Inv-loop μ-loop
-same-length c = search needs
 
 returns : tie.Need-returns Inv-loop μ-loop
 returns c =
@@ -71,11 +52,11 @@ clear-keys-spec =
     Inv-loop
     μ-loop
     loop-holds
-    mul-store-word
-    add-store-word
-    store-word-requires
-    add-slot
-    loop-less
+    (λ c. search needs)
+    (λ c. search needs)
+    (λ c κs. search needs)
+    (λ c. search needs)
+    (λ c. search needs)
     loop-again
-    same-length
+    (λ c. search needs)
     returns)

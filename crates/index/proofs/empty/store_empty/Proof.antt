@@ -1,5 +1,4 @@
 -- `index::empty::store_empty` meets its contract.
--- Assumes nothing.
 use borrow.Author.Needs.{needs}
 use native.Mathlib.Omega.{arith}
 use Prim.Native.Nat.{_+_, _*_}
@@ -26,7 +25,8 @@ segment-base-requires c κs = let s = shape _ _ (c .before .before .before .befo
 
 clear-keys-requires : tie.Need-clear-keys-requires
 clear-keys-requires c κs =
-    let f = first-segment-fits _ _ _ (c .before .before .before .before .before .before .before .before .before .before .before .pre .0) (c .before .before .before .before .before .before .before .before .before .before .before .pre .1) in
+    let start = c .before .before .before .before .before .before .before .before .before .before .before in
+    let f = first-segment-fits _ _ _ (start .pre .0) (start .pre .1) in
     let e = c .before .before .before .before .before .before .before .before .store-word .ensures in
     let k = c .before .before .before .before .store-word2 .ensures in
     (rw (c .before .segment-base .ensures) (omega (arith, executed-length e, executed-length k)), omega (arith, e .count, k .count))
@@ -36,21 +36,23 @@ pack-header-requires c κs = let s = shape _ _ (c .before .before .before .befor
 
 store-word-requires-3 : tie.Need-store-word-requires-3
 store-word-requires-3 c κs =
-    let f = first-segment-fits _ _ _ (c .before .before .before .before .before .before .before .before .before .before .before .before .before .before .before .before .pre .0) (c .before .before .before .before .before .before .before .before .before .before .before .before .before .before .before .before .pre .1) in
-    let e = c .before .before .before .before .before .before .before .before .before .before .before .before .before .store-word .ensures in
-    let k = c .before .before .before .before .before .before .before .before .before .store-word2 .ensures in
+    let at-store-word2 = c .before .before .before .before .before .before .before .before .before in
+    let at-store-word = at-store-word2 .before .before .before .before in
+    let start = at-store-word .before .before .before in
+    let f = first-segment-fits _ _ _ (start .pre .0) (start .pre .1) in
+    let e = at-store-word .store-word .ensures in
+    let k = at-store-word2 .store-word2 .ensures in
     let l = c .before .before .before .before .clear-keys .ensures in (
       omega (arith, executed-length e, executed-length k, executed-length l),
       omega (arith, e .count, k .count, l .count, length-each-ones (λ j. store (c .before .before .before .before .before .before .segment-base .result + 2 * j) 0) 64),
     )
 
-same-length : tie.Need-same-length
-same-length c = search needs
-
 returns : tie.Need-returns
 returns c =
-    format-stores _ _ _ _ _ _ _ _ _ _ _ _ _ _ (c .before .before .before .before .before .before .before .before .before .segment-base .ensures) (c .before .before .before .before .pack-header .ensures) (c .before .before .before .before .before .before .before .before .before .before .before .before .before .before .before .before .store-word .ensures)
-    (c .before .before .before .before .before .before .before .before .before .before .before .before .store-word2 .ensures) (c .before .before .before .before .before .before .before .clear-keys .ensures) (c .before .before .store-word3 .ensures)
+    let at-segment-base = c .before .before .before .before .before .before .before .before .before in
+    let at-store-word2 = at-segment-base .before .before .before in
+    format-stores _ _ _ _ _ _ _ _ _ _ _ _ _ _ (at-segment-base .segment-base .ensures) (c .before .before .before .before .pack-header .ensures) (at-store-word2 .before .before .before .before .store-word .ensures)
+    (at-store-word2 .store-word2 .ensures) (c .before .before .before .before .before .before .before .clear-keys .ensures) (c .before .before .store-word3 .ensures)
 
 pub store-empty-spec : {M : Type 1} → statement M
 store-empty-spec =
@@ -62,5 +64,5 @@ store-empty-spec =
     clear-keys-requires
     pack-header-requires
     store-word-requires-3
-    same-length
+    (λ c. search needs)
     returns)

@@ -1,5 +1,4 @@
 -- `index::listing::count_block` meets its contract.
--- Assumes nothing.
 use borrow.Author.Needs.{needs}
 use native.Mathlib.Omega.{arith}
 use mathlib.Core.Path.{ap, _∙_}
@@ -7,21 +6,6 @@ use lib.ListN.{length}
 use Rattle.index_segment.proofs.Parts.{span, part-length, part-records}
 use Rattle.index.proofs.listing.count_block.Statement.{statement}
 use Rattle.index.proofs.listing.count_block.Tie as tie
-
-add-count-live : tie.Need-add-count-live
-add-count-live c = omega (arith, c .before .pre .0)
-
-mul-count-live : tie.Need-mul-count-live
-mul-count-live c = omega (arith, c .before .pre .0)
-
-sub-count-live : tie.Need-sub-count-live
-sub-count-live c = search needs
-
-part-count-live-start : tie.Need-part-count-live-start
-part-count-live-start c = search needs
-
-part-count-live-end : tie.Need-part-count-live-end
-part-count-live-end c = omega (arith, c .before .pre .0)
 
 count-live-requires : tie.Need-count-live-requires
 count-live-requires c κs =
@@ -40,10 +24,10 @@ pub count-block-spec : {M : Type 1} → statement M
 count-block-spec =
     tie.close
     (tie.spec
-    add-count-live
-    mul-count-live
-    sub-count-live
-    part-count-live-start
-    part-count-live-end
+    (λ c. omega (arith, c .before .pre .0))
+    (λ c. omega (arith, c .before .pre .0))
+    (λ c. search needs)
+    (λ c. search needs)
+    (λ c. omega (arith, c .before .pre .0))
     count-live-requires
     returns)

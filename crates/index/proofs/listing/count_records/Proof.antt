@@ -1,6 +1,5 @@
 -- `index::listing::count_records` meets its contract. The invariant: the index leads a block, and the count is that of the
 -- records of the indices below it.
--- Assumes nothing.
 use native.Mathlib.Omega.{arith}
 use mathlib.Core.Path.{_≡_}
 use Prim.Native.Nat.{_-_, _*_, _≤_}
@@ -20,9 +19,6 @@ Inv-loop words header count total₀ i₀ total i =
 
 abbrev μ-loop : tie.MeasureT-loop
 μ-loop words header count total₀ i₀ total i = count - i
-
-pow2-requires : tie.Need-pow2-requires Inv-loop μ-loop
-pow2-requires c κs = let b = bounds (c .before .pre .0) in omega arith
 
 loop-holds : tie.Need-loop-holds Inv-loop μ-loop
 loop-holds c = (omega arith, omega arith, leader-zero _ _, rw records-start)
@@ -75,7 +71,7 @@ count-records-spec =
     (tie.spec
     Inv-loop
     μ-loop
-    pow2-requires
+    (λ c κs. let b = bounds (c .before .pre .0) in omega arith)
     loop-holds
     read-block-requires
     count-block-requires

@@ -1,5 +1,4 @@
 -- `index::listing::find_block` meets its contract.
--- Assumes nothing.
 use borrow.Author.Needs.{needs}
 use native.Mathlib.Omega.{arith}
 use Rattle.index_laws.proofs.Keys.{width-pos}
@@ -8,9 +7,6 @@ use Rattle.index_layout.proofs.Shapes.{bounds}
 use Rattle.index.proofs.Listings.{leads-not-behind, entry-low, leads-here, leads-not-inside}
 use Rattle.index.proofs.listing.find_block.Statement.{statement}
 use Rattle.index.proofs.listing.find_block.Tie as tie
-
-pow2-requires : tie.Need-pow2-requires
-pow2-requires c κs = let b = bounds (c .before .pre .0) in omega arith
 
 returns : tie.Need-returns
 returns c = leads-not-behind (c .before .before .before .pre) _ (c .before .pow2 .ensures) _ (c .if1 .taken)
@@ -24,9 +20,6 @@ mul-local-depth-of c = let b = bounds (c .before .before .before .pre .0) in ome
 shared-slice-read-local-depth-of : tie.Need-shared-slice-read-local-depth-of
 shared-slice-read-local-depth-of c =
     let b = bounds (c .before .before .before .before .pre .0) in omega (arith, c .before .if1 .left, c .before .before .pow2 .ensures)
-
-local-depth-of-requires : tie.Need-local-depth-of-requires
-local-depth-of-requires c κs = search needs
 
 block-width-requires : tie.Need-block-width-requires
 block-width-requires c κs =
@@ -63,12 +56,12 @@ pub find-block-spec : {M : Type 1} → statement M
 find-block-spec =
     tie.close
     (tie.spec
-    pow2-requires
+    (λ c κs. let b = bounds (c .before .pre .0) in omega arith)
     returns
     add-local-depth-of
     mul-local-depth-of
     shared-slice-read-local-depth-of
-    local-depth-of-requires
+    (λ c κs. search needs)
     block-width-requires
     sub-if2
     returns-2

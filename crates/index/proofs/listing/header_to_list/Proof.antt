@@ -1,63 +1,42 @@
 -- `index::listing::header_to_list` meets its contract.
--- Assumes nothing.
 use borrow.Author.Needs.{needs}
 use mathlib.Core.Path.{sym, _∙_}
+use Rattle.index_layout.specs.Headers.{Describes}
 use Rattle.index_layout.proofs.Answers.{header-valid, header-not-valid}
 use Rattle.index.proofs.Listings.{front-no-store, front-directory}
 use Rattle.index.proofs.listing.header_to_list.Statement.{statement}
 use Rattle.index.proofs.listing.header_to_list.Tie as tie
 
-read-header-requires : tie.Need-read-header-requires
-read-header-requires c κs = search needs
-
-enum-known-header : tie.Need-enum-known-header
-enum-known-header c = search needs
-
-enum-told : tie.Need-enum-told
-enum-told c = search needs
+-- The header, behind the test of word 0.
+described : (c : tie.After-known-told) → Describes (c .before .header .given .0 .0) (c .before .before .before .before .before .args .words .now)
+described c = header-valid _ _ (c .before .before .before .read-header .ensures) _ (c .before .header .given .1)
 
 returns : tie.Need-returns
 returns c = front-no-store _ (header-not-valid _ _ (c .before .before .read-header .ensures) (c .enum-told .given .1))
 
-scan-requires : tie.Need-scan-requires
-scan-requires c κs = header-valid _ _ (c .before .before .before .read-header .ensures) _ (c .before .header .given .1)
-
-enum-told-2 : tie.Need-enum-told-2
-enum-told-2 c = search needs
-
-enum-told-3 : tie.Need-enum-told-3
-enum-told-3 c = search needs
-
-enum-told-4 : tie.Need-enum-told-4
-enum-told-4 c = search needs
-
 returns-2 : tie.Need-returns-2
-returns-2 c =
-    let d = header-valid _ _ (c .before .before .before .before .before .before .read-header .ensures) _ (c .before .before .before .before .header .given .1) in
-    front-directory _ (d .valid) ∙ sym (rw (c .enum-told2 .given .1) at (c .before .before .scan .ensures))
+returns-2 c = front-directory _ (described (c .before .before .before) .valid) ∙ sym (rw (c .enum-told2 .given .1) at (c .before .before .scan .ensures))
 
 returns-3 : tie.Need-returns-3
-returns-3 c =
-    let d = header-valid _ _ (c .before .before .before .before .before .before .read-header .ensures) _ (c .before .before .before .before .header .given .1) in
-    front-directory _ (d .valid) ∙ sym (rw (c .enum-told3 .given .1) at (c .before .before .scan .ensures))
+returns-3 c = front-directory _ (described (c .before .before .before) .valid) ∙ sym (rw (c .enum-told3 .given .1) at (c .before .before .scan .ensures))
 
 returns-4 : tie.Need-returns-4
 returns-4 c =
-    let d = header-valid _ _ (c .before .before .before .before .before .before .read-header .ensures) _ (c .before .before .before .before .header .given .1) in
+    let d = described (c .before .before .before) in
     (d, front-directory _ (d .valid) ∙ sym (rw (c .enum-told4 .given .1) at (c .before .before .scan .ensures)))
 
 pub header-to-list-spec : {M : Type 1} → statement M
 header-to-list-spec =
     tie.close
     (tie.spec
-    read-header-requires
-    enum-known-header
-    enum-told
+    (λ c κs. search needs)
+    (λ c. search needs)
+    (λ c. search needs)
     returns
-    scan-requires
-    enum-told-2
-    enum-told-3
-    enum-told-4
+    (λ c κs. described c)
+    (λ c. search needs)
+    (λ c. search needs)
+    (λ c. search needs)
     returns-2
     returns-3
     returns-4)

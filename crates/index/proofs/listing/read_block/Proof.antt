@@ -1,5 +1,4 @@
 -- `index::listing::read_block` meets its contract.
--- Assumes nothing.
 use borrow.Author.Needs.{needs}
 use native.Mathlib.Omega.{arith}
 use Rattle.index_laws.proofs.Keys.{width-le}
@@ -9,9 +8,6 @@ use Rattle.index.proofs.Listings.{leader-below, leader-bounds}
 use Rattle.index.proofs.listing.read_block.Statement.{statement}
 use Rattle.index.proofs.listing.read_block.Tie as tie
 
-pow2-requires : tie.Need-pow2-requires
-pow2-requires c κs = let b = bounds (c .before .pre .0 .0) in omega arith
-
 add-at : tie.Need-add-at
 add-at c = let b = bounds (c .before .before .pre .0 .0) in omega (arith, leader-below (c .before .before .pre .0 .0) (c .before .before .pre .0 .1) _ (c .before .before .pre .1))
 
@@ -20,12 +16,6 @@ mul-entry c = let b = bounds (c .before .before .pre .0 .0) in omega (arith, lea
 
 shared-slice-read-entry : tie.Need-shared-slice-read-entry
 shared-slice-read-entry c = let b = bounds (c .before .before .before .pre .0 .0) in omega (arith, leader-below (c .before .before .before .pre .0 .0) (c .before .before .before .pre .0 .1) _ (c .before .before .before .pre .1))
-
-local-depth-of-requires : tie.Need-local-depth-of-requires
-local-depth-of-requires c κs = search needs
-
-segment-of-requires : tie.Need-segment-of-requires
-segment-of-requires c κs = search needs
 
 segment-base-requires : tie.Need-segment-base-requires
 segment-base-requires c κs =
@@ -66,12 +56,12 @@ pub read-block-spec : {M : Type 1} → statement M
 read-block-spec =
     tie.close
     (tie.spec
-    pow2-requires
+    (λ c κs. let b = bounds (c .before .pre .0 .0) in omega arith)
     add-at
     mul-entry
     shared-slice-read-entry
-    local-depth-of-requires
-    segment-of-requires
+    (λ c κs. search needs)
+    (λ c κs. search needs)
     segment-base-requires
     block-bits-requires
     block-width-requires

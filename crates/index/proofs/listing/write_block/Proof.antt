@@ -1,34 +1,15 @@
 -- `index::listing::write_block` meets its contract.
--- Assumes nothing.
 use borrow.Author.Needs.{needs}
 use native.Mathlib.Omega.{arith}
 use Rattle.index_segment.proofs.Parts.{span, part-length, part-records}
 use Rattle.index.proofs.listing.write_block.Statement.{statement}
 use Rattle.index.proofs.listing.write_block.Tie as tie
 
-add-write-live : tie.Need-add-write-live
-add-write-live c = omega (arith, c .before .before .pre .0 .0)
-
-mul-write-live : tie.Need-mul-write-live
-mul-write-live c = omega (arith, c .before .before .pre .0 .0)
-
-sub-write-live : tie.Need-sub-write-live
-sub-write-live c = search needs
-
-part-write-live-start : tie.Need-part-write-live-start
-part-write-live-start c = search needs
-
-part-write-live-end : tie.Need-part-write-live-end
-part-write-live-end c = omega (arith, c .before .before .pre .0 .0)
-
 write-live-requires : tie.Need-write-live-requires
 write-live-requires c κs =
     let p = c .before .before .before .before .pre in
     rw (span (c .before .before .before .before .args .place .base))
     (part-length _ _ (p .0 .0), p .0 .1, rw (part-records _ _ (p .0 .0) _ _) (p .1))
-
-same-length : tie.Need-same-length
-same-length c = search needs
 
 returns : tie.Need-returns
 returns c =
@@ -39,11 +20,11 @@ pub write-block-spec : {M : Type 1} → statement M
 write-block-spec =
     tie.close
     (tie.spec
-    add-write-live
-    mul-write-live
-    sub-write-live
-    part-write-live-start
-    part-write-live-end
+    (λ c. omega (arith, c .before .before .pre .0 .0))
+    (λ c. omega (arith, c .before .before .pre .0 .0))
+    (λ c. search needs)
+    (λ c. search needs)
+    (λ c. omega (arith, c .before .before .pre .0 .0))
     write-live-requires
-    same-length
+    (λ c. search needs)
     returns)

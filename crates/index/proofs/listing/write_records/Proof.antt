@@ -1,6 +1,5 @@
 -- `index::listing::write_records` meets its contract. The invariant: the index leads a block, and the records of the indices
 -- below it are written.
--- Assumes nothing.
 use native.Mathlib.Omega.{arith}
 use mathlib.Core.Path.{_≡_, refl, _∙_}
 use Prim.Native.Nat.{_-_, _≤_}
@@ -27,9 +26,6 @@ Inv-loop words header list₀ count at₀ i₀ list at i =
 
 abbrev μ-loop : tie.MeasureT-loop
 μ-loop words header list₀ count at₀ i₀ list at i = count - i
-
-pow2-requires : tie.Need-pow2-requires Inv-loop μ-loop
-pow2-requires c κs = let b = bounds (c .before .before .pre .0 .0) in omega arith
 
 loop-holds : tie.Need-loop-holds Inv-loop μ-loop
 loop-holds c = (omega arith, leader-zero _ _, refl, rw (records-start, words-none) (written-none 0 _))
@@ -82,7 +78,7 @@ write-records-spec =
     (tie.spec
     Inv-loop
     μ-loop
-    pow2-requires
+    (λ c κs. let b = bounds (c .before .before .pre .0 .0) in omega arith)
     loop-holds
     read-block-requires
     write-block-requires

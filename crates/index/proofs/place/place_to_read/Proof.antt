@@ -1,19 +1,9 @@
 -- `index::place::place_to_read` meets its contract.
--- Assumes nothing.
 use Rattle.index_layout.proofs.Answers.{header-valid, header-not-valid}
 use Rattle.index.proofs.Places.{read-no-store, read-no-key, read-entry-decides}
 use borrow.Author.Needs.{needs}
 use Rattle.index.proofs.place.place_to_read.Statement.{statement}
 use Rattle.index.proofs.place.place_to_read.Tie as tie
-
-read-header-requires : tie.Need-read-header-requires
-read-header-requires c κs = search needs
-
-enum-known-header : tie.Need-enum-known-header
-enum-known-header c = search needs
-
-enum-told : tie.Need-enum-told
-enum-told c = search needs
 
 returns : tie.Need-returns
 returns c = read-no-store _ _ (header-not-valid _ _ (c .before .before .read-header .ensures) (c .enum-told .given .1))
@@ -35,9 +25,9 @@ pub place-to-read-spec : {M : Type 1} → statement M
 place-to-read-spec =
     tie.close
     (tie.spec
-    read-header-requires
-    enum-known-header
-    enum-told
+    (λ c κs. search needs)
+    (λ c. search needs)
+    (λ c. search needs)
     returns
     returns-2
     place-of-requires

@@ -1,5 +1,4 @@
 -- `index::slot::choose_at` meets its contract.
--- Assumes nothing.
 use native.Mathlib.Omega.{arith}
 use mathlib.Core.Path.{_∙_}
 use Rattle.index_layout.proofs.Places.{place-bounds}
@@ -8,21 +7,6 @@ use Rattle.index.proofs.Places.{place-choice}
 use borrow.Author.Needs.{needs}
 use Rattle.index.proofs.slot.choose_at.Statement.{statement}
 use Rattle.index.proofs.slot.choose_at.Tie as tie
-
-add-choose : tie.Need-add-choose
-add-choose c = let p = place-bounds (c .before .pre) in omega arith
-
-mul-choose : tie.Need-mul-choose
-mul-choose c = let p = place-bounds (c .before .pre) in omega arith
-
-sub-choose : tie.Need-sub-choose
-sub-choose c = search needs
-
-part-choose-start : tie.Need-part-choose-start
-part-choose-start c = search needs
-
-part-choose-end : tie.Need-part-choose-end
-part-choose-end c = let p = place-bounds (c .before .pre) in omega arith
 
 choose-requires : tie.Need-choose-requires
 choose-requires c κs = let p = place-bounds (c .before .before .pre) in (search needs, p .local-small)
@@ -37,10 +21,10 @@ pub choose-at-spec : {M : Type 1} → statement M
 choose-at-spec =
     tie.close
     (tie.spec
-    add-choose
-    mul-choose
-    sub-choose
-    part-choose-start
-    part-choose-end
+    (λ c. let p = place-bounds (c .before .pre) in omega arith)
+    (λ c. let p = place-bounds (c .before .pre) in omega arith)
+    (λ c. search needs)
+    (λ c. search needs)
+    (λ c. let p = place-bounds (c .before .pre) in omega arith)
     choose-requires
     returns)

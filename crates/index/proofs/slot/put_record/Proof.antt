@@ -1,5 +1,4 @@
 -- `index::slot::put_record` meets its contract.
--- Assumes nothing.
 use native.Mathlib.Omega.{arith}
 use Rattle.stores.proofs.Stores.{executed-append}
 use Rattle.index_layout.proofs.Places.{place-bounds}
@@ -8,15 +7,6 @@ use Rattle.index.proofs.Puts.{value-stored}
 use borrow.Author.Needs.{needs}
 use Rattle.index.proofs.slot.put_record.Statement.{statement}
 use Rattle.index.proofs.slot.put_record.Tie as tie
-
-mul-key-at : tie.Need-mul-key-at
-mul-key-at c = search needs
-
-add-key-at : tie.Need-add-key-at
-add-key-at c = let p = place-bounds (c .before .before .pre .1) in omega (arith, c .before .before .pre .0)
-
-add-value-at : tie.Need-add-value-at
-add-value-at c = let p = place-bounds (c .before .before .pre .1) in omega (arith, c .before .before .pre .0)
 
 store-word-requires : tie.Need-store-word-requires
 store-word-requires c κs = let p = place-bounds (c .before .before .before .pre .1) in (omega (arith, c .before .before .before .pre .0), omega arith)
@@ -27,12 +17,6 @@ store-word-requires-2 c κs =
     let kept = c .before .before .before .store-word .kept .0 in
     (omega (arith, c .before .before .before .before .before .before .before .pre .0), omega (arith, c .before .before .before .store-word .ensures .count))
 
-after-stores-requires : tie.Need-after-stores-requires
-after-stores-requires c κs = search needs
-
-same-length : tie.Need-same-length
-same-length c = search needs
-
 returns : tie.Need-returns
 returns c =
     let first = value-stored _ _ _ _ _ _ _ _ (c .before .before .before .before .before .before .before .store-word .ensures) in
@@ -42,11 +26,11 @@ pub put-record-spec : {M : Type 1} → statement M
 put-record-spec =
     tie.close
     (tie.spec
-    mul-key-at
-    add-key-at
-    add-value-at
+    (λ c. search needs)
+    (λ c. let p = place-bounds (c .before .before .pre .1) in omega (arith, c .before .before .pre .0))
+    (λ c. let p = place-bounds (c .before .before .pre .1) in omega (arith, c .before .before .pre .0))
     store-word-requires
     store-word-requires-2
-    after-stores-requires
-    same-length
+    (λ c κs. search needs)
+    (λ c. search needs)
     returns)

@@ -1,5 +1,4 @@
 -- `index::slot::put_value` meets its contract.
--- Assumes nothing.
 use native.Mathlib.Omega.{arith}
 use Rattle.index_layout.proofs.Places.{place-bounds}
 use Rattle.index.proofs.Answers.{answered-stores}
@@ -8,23 +7,8 @@ use borrow.Author.Needs.{needs}
 use Rattle.index.proofs.slot.put_value.Statement.{statement}
 use Rattle.index.proofs.slot.put_value.Tie as tie
 
-mul-value-at : tie.Need-mul-value-at
-mul-value-at c = search needs
-
-add-value-at : tie.Need-add-value-at
-add-value-at c = let p = place-bounds (c .before .before .pre .1) in omega (arith, c .before .before .pre .0)
-
-add-value-at-2 : tie.Need-add-value-at-2
-add-value-at-2 c = let p = place-bounds (c .before .before .pre .1) in omega (arith, c .before .before .pre .0)
-
 store-word-requires : tie.Need-store-word-requires
 store-word-requires c κs = let p = place-bounds (c .before .before .before .pre .1) in (omega (arith, c .before .before .before .pre .0), omega arith)
-
-after-stores-requires : tie.Need-after-stores-requires
-after-stores-requires c κs = search needs
-
-same-length : tie.Need-same-length
-same-length c = search needs
 
 returns : tie.Need-returns
 returns c =
@@ -34,10 +18,10 @@ pub put-value-spec : {M : Type 1} → statement M
 put-value-spec =
     tie.close
     (tie.spec
-    mul-value-at
-    add-value-at
-    add-value-at-2
+    (λ c. search needs)
+    (λ c. let p = place-bounds (c .before .before .pre .1) in omega (arith, c .before .before .pre .0))
+    (λ c. let p = place-bounds (c .before .before .pre .1) in omega (arith, c .before .before .pre .0))
     store-word-requires
-    after-stores-requires
-    same-length
+    (λ c κs. search needs)
+    (λ c. search needs)
     returns)

@@ -1,5 +1,4 @@
 -- `index_directory::buddy::buddy_index` meets its contract.
--- Assumes nothing.
 use native.Mathlib.Omega.{arith}
 use Rattle.index_directory.proofs.Buddies.{buddy-left, buddy-right}
 use Rattle.index_directory.proofs.buddy.buddy_index.Statement.{statement}

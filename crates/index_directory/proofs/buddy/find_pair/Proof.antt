@@ -1,5 +1,4 @@
 -- `index_directory::buddy::find_pair` meets its contract.
--- Assumes nothing.
 use Prim.Native.Nat.{_^_, _<_}
 use borrow.Author.Needs.{needs}
 use native.Mathlib.Omega.{arith}
@@ -16,9 +15,6 @@ returns c = whole-directory (c .before .before .pre) (c .if1 .taken)
 directory-index-requires : tie.Need-directory-index-requires
 directory-index-requires c κs = bounds (c .before .before .pre .header-read) .depth-high
 
-sub-starts-of : tie.Need-sub-starts-of
-sub-starts-of c = search needs
-
 starts-of-requires : tie.Need-starts-of-requires
 starts-of-requires c κs =
     let k = c .before .before .before .pre in
@@ -27,12 +23,6 @@ starts-of-requires c κs =
       bounds (k .header-read) .depth-high,
       rw (c .directory-index .ensures) (first-lt (p .bits) (p .header .depth)),
     )
-
-pow2-requires : tie.Need-pow2-requires
-pow2-requires c κs = omega (arith, bounds (c .before .before .before .before .pre .header-read) .depth-high)
-
-buddy-index-requires : tie.Need-buddy-index-requires
-buddy-index-requires c κs = search needs
 
 -- The buddy's first index is in the directory.
 inside : (c : tie.After-buddy-index) → c .buddy-index .result < 2 ^ c .before .before .before .before .before .before .args .place .header .depth
@@ -58,9 +48,6 @@ shared-slice-read-entry c =
     let g = bounds (c .before .before .before .before .before .before .before .pre .header-read) in
     omega (arith, g .room, c .before .before .pow2 .ensures, inside (c .before))
 
-local-depth-of-requires : tie.Need-local-depth-of-requires
-local-depth-of-requires c κs = search needs
-
 returns-2 : tie.Need-returns-2
 returns-2 c =
     let k = c .before .before .before .before .before .before .before .before .before .pre in
@@ -70,16 +57,11 @@ returns-2 c =
     (c .before .before .before .buddy-index .ensures _ _ b) (c .before .before .before .before .pow2 .ensures)
     (λ e. c .if2 .taken (c .before .local-depth-of .ensures ∙ e))
 
-segment-of-requires : tie.Need-segment-of-requires
-segment-of-requires c κs = search needs
-
-pair-of-requires : tie.Need-pair-of-requires
-pair-of-requires c κs = search needs
-
 returns-3 : tie.Need-returns-3
 returns-3 c =
-    let k = c .before .before .before .before .before .before .before .before .before .before .before .pre in
-    let deep = c .before .before .before .before .before .before .before .before .before .if1 .left in
+    let at-if1 = c .before .before .before .before .before .before .before .before .before in
+    let k = at-if1 .before .before .pre in
+    let deep = at-if1 .if1 .left in
     let b = c .before .before .before .before .before .before .before .starts-of .ensures in
     let found =
     same-depth k deep (c .before .before .before .before .before .before .before .before .directory-index .ensures) b
@@ -88,4 +70,20 @@ returns-3 c =
     rw (c .pair-of .ensures, c .before .segment-of .ensures) found
 
 pub find-pair-spec : {M : Type 1} → statement M
-find-pair-spec = tie.close (tie.spec returns directory-index-requires sub-starts-of starts-of-requires pow2-requires buddy-index-requires add-at mul-entry shared-slice-read-entry local-depth-of-requires returns-2 segment-of-requires pair-of-requires returns-3)
+find-pair-spec =
+    tie.close
+    (tie.spec
+    returns
+    directory-index-requires
+    (λ c. search needs)
+    starts-of-requires
+    (λ c κs. omega (arith, bounds (c .before .before .before .before .pre .header-read) .depth-high))
+    (λ c κs. search needs)
+    add-at
+    mul-entry
+    shared-slice-read-entry
+    (λ c κs. search needs)
+    returns-2
+    (λ c κs. search needs)
+    (λ c κs. search needs)
+    returns-3)

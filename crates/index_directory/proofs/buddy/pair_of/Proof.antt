@@ -1,5 +1,4 @@
 -- `index_directory::buddy::pair_of` meets its contract.
--- Assumes nothing.
 use borrow.Author.Tests.{le-leb, lt-leb}
 use native.Mathlib.Omega.{arith}
 use Rattle.index_directory.proofs.buddy.pair_of.Statement.{statement}

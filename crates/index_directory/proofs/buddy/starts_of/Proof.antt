@@ -1,19 +1,9 @@
 -- `index_directory::buddy::starts_of` meets its contract.
--- Assumes nothing.
 use borrow.Author.Needs.{needs}
 use native.Mathlib.Omega.{arith}
 use Rattle.index_directory.proofs.Buddies.{starts-small, begun}
 use Rattle.index_directory.proofs.buddy.starts_of.Statement.{statement}
 use Rattle.index_directory.proofs.buddy.starts_of.Tie as tie
-
-block-start-requires : tie.Need-block-start-requires
-block-start-requires c κs = search needs
-
-add-block-width : tie.Need-add-block-width
-add-block-width c = search needs
-
-block-width-requires : tie.Need-block-width-requires
-block-width-requires c κs = search needs
 
 add-right : tie.Need-add-right
 add-right c =
@@ -27,4 +17,4 @@ returns c =
     begun (a .depth) (a .local-depth) (a .i) _ _ (c .before .block-start .ensures) (c .block-width .ensures)
 
 pub starts-of-spec : {M : Type 1} → statement M
-starts-of-spec = tie.close (tie.spec block-start-requires add-block-width block-width-requires add-right returns)
+starts-of-spec = tie.close (tie.spec (λ c κs. search needs) (λ c. search needs) (λ c κs. search needs) add-right returns)

@@ -1,5 +1,4 @@
 -- `index_directory::double::double` meets its contract.
--- Assumes nothing.
 use borrow.Author.Needs.{needs}
 use mathlib.Core.Path.{_≡_, _∙_}
 use Prim.Native.Nat.{_+_, _-_, _≤_}
@@ -23,12 +22,6 @@ Inv-loop words₀ header allowance due count due₁ e₀ e-end words due′ e =
 abbrev μ-loop : tie.MeasureT-loop
 μ-loop words₀ header allowance due count due₁ e₀ e-end words due′ e = e-end - e
 
-pow2-requires : tie.Need-pow2-requires Inv-loop μ-loop
-pow2-requires c κs = let b = bounds (c .before .pre .0) in omega arith
-
-mul-e-end : tie.Need-mul-e-end Inv-loop μ-loop
-mul-e-end c = let b = bounds (c .before .before .pre .0) in omega arith
-
 loop-holds : tie.Need-loop-holds Inv-loop μ-loop
 loop-holds c = (omega arith, omega arith, search needs, before-loop (doubledEntry (c .before .before .args .words .now)) _ _ _)
 
@@ -42,9 +35,6 @@ add-e : tie.Need-add-e Inv-loop μ-loop
 add-e c =
     let b = bounds (c .before .before .before .before .before .before .before .before .pre .0) in omega (arith, c .before .before .before .before)
 
-loop-less : tie.Need-loop-less Inv-loop μ-loop
-loop-less c = omega (arith, c .before .before .before .before)
-
 loop-again : tie.Need-loop-again Inv-loop μ-loop
 loop-again c =
     let i = c .before .before .before .before .before .loop .inv in
@@ -56,9 +46,6 @@ loop-again c =
           (c .before .before .before .before .before .before .pow2 .ensures) (c .before .before .before .before .before .loop .e) _ _ _ _
           (omega (arith, c .before .before .before .before)) (i .3) p,
     )
-
-add-pack-header : tie.Need-add-pack-header Inv-loop μ-loop
-add-pack-header c = let b = bounds (c .before .before .before .before .before .pre .0) in omega arith
 
 pack-header-requires : tie.Need-pack-header-requires Inv-loop μ-loop
 pack-header-requires c κs = let b = bounds (c .before .before .before .before .before .pre .0) in (omega arith, omega arith, omega arith)
@@ -85,14 +72,14 @@ double-spec =
     (tie.spec
     Inv-loop
     μ-loop
-    pow2-requires
-    mul-e-end
+    (λ c κs. let b = bounds (c .before .pre .0) in omega arith)
+    (λ c. let b = bounds (c .before .before .pre .0) in omega arith)
     loop-holds
     double-entry-requires
     add-e
-    loop-less
+    (λ c. omega (arith, c .before .before .before .before))
     loop-again
-    add-pack-header
+    (λ c. let b = bounds (c .before .before .before .before .before .pre .0) in omega arith)
     pack-header-requires
     store-word-requires
     same-length

@@ -1,12 +1,8 @@
 -- `index_directory::free::free_in` meets its contract.
--- Assumes nothing.
 use borrow.Author.Needs.{needs}
 use Rattle.index_directory.proofs.Segments.{free-there, free-nowhere}
 use Rattle.index_directory.proofs.free.free_in.Statement.{statement}
 use Rattle.index_directory.proofs.free.free_in.Tie as tie
-
-smallest-missing-requires : tie.Need-smallest-missing-requires
-smallest-missing-requires c κs = search needs
 
 returns : tie.Need-returns
 returns c = free-there (c .before .smallest-missing .ensures) _ (c .if1 .taken)
@@ -15,4 +11,4 @@ returns-2 : tie.Need-returns-2
 returns-2 c = free-nowhere (c .before .smallest-missing .ensures) _ (c .if1 .left)
 
 pub free-in-spec : {M : Type 1} → statement M
-free-in-spec = tie.close (tie.spec smallest-missing-requires returns returns-2)
+free-in-spec = tie.close (tie.spec (λ c κs. search needs) returns returns-2)

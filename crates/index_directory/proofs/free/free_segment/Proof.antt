@@ -1,5 +1,4 @@
 -- `index_directory::free::free_segment` meets its contract.
--- Assumes nothing.
 use borrow.Author.Needs.{needs}
 use mathlib.Core.Path.{refl, _∙_}
 use Rattle.index_directory.proofs.BitSets.{empty-set}
@@ -7,20 +6,8 @@ use Rattle.index_directory.proofs.Segments.{free-named}
 use Rattle.index_directory.proofs.free.free_segment.Statement.{statement}
 use Rattle.index_directory.proofs.free.free_segment.Tie as tie
 
-slice-aggregate-note-named : tie.Need-slice-aggregate-note-named
-slice-aggregate-note-named c = search needs
-
 note-named-requires : tie.Need-note-named-requires
 note-named-requires c κs = (c .before .before .pre, refl, empty-set 64)
-
-slice-aggregate-free-in : tie.Need-slice-aggregate-free-in
-slice-aggregate-free-in c = search needs
-
-cast-free-in : tie.Need-cast-free-in
-cast-free-in c = search needs
-
-free-in-requires : tie.Need-free-in-requires
-free-in-requires c κs = search needs
 
 returns : tie.Need-returns
 returns c =
@@ -31,9 +18,9 @@ pub free-segment-spec : {M : Type 1} → statement M
 free-segment-spec =
     tie.close
     (tie.spec
-    slice-aggregate-note-named
+    (λ c. search needs)
     note-named-requires
-    slice-aggregate-free-in
-    cast-free-in
-    free-in-requires
+    (λ c. search needs)
+    (λ c. search needs)
+    (λ c κs. search needs)
     returns)

@@ -1,18 +1,8 @@
 -- `index_directory::free::note_entry` meets its contract.
--- Assumes nothing.
 use borrow.Author.Needs.{needs}
 use Rattle.index_directory.proofs.Segments.{noted-below, noted-not}
 use Rattle.index_directory.proofs.free.note_entry.Statement.{statement}
 use Rattle.index_directory.proofs.free.note_entry.Tie as tie
-
-segment-of-requires : tie.Need-segment-of-requires
-segment-of-requires c κs = search needs
-
-insert-requires : tie.Need-insert-requires
-insert-requires c κs = search needs
-
-same-length : tie.Need-same-length
-same-length c = search needs
 
 returns : tie.Need-returns
 returns c =
@@ -26,4 +16,4 @@ returns-2 c =
     noted-not (a .entry) (a .segments) _ (c .before .segment-of .ensures) _ (c .if1 .left)
 
 pub note-entry-spec : {M : Type 1} → statement M
-note-entry-spec = tie.close (tie.spec segment-of-requires insert-requires same-length returns returns-2)
+note-entry-spec = tie.close (tie.spec (λ c κs. search needs) (λ c κs. search needs) (λ c. search needs) returns returns-2)

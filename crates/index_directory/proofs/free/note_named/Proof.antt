@@ -1,5 +1,4 @@
 -- `index_directory::free::note_named` meets its contract.
--- Assumes nothing.
 use borrow.Author.Needs.{needs}
 use mathlib.Core.Path.{_∙_}
 use Prim.Native.Nat.{_-_, _≤_}
@@ -17,22 +16,10 @@ Inv-loop words set₀ count segments i₀ set i = (i ≤ count) × BitSet set ×
 abbrev μ-loop : tie.MeasureT-loop
 μ-loop words set₀ count segments i₀ set i = count - i
 
-pow2-requires : tie.Need-pow2-requires Inv-loop μ-loop
-pow2-requires c κs = let b = bounds (c .before .before .pre .0) in omega arith
-
-cast-segments : tie.Need-cast-segments Inv-loop μ-loop
-cast-segments c = search needs
-
 loop-holds : tie.Need-loop-holds Inv-loop μ-loop
 loop-holds c =
     let p = c .before .before .before .before .pre in
     (omega arith, p .1, noted-none (c .before .before .before .before .args .words .now) _ (p .2))
-
-add-note-entry : tie.Need-add-note-entry Inv-loop μ-loop
-add-note-entry c = let b = bounds (c .before .before .before .before .before .before .before .pre .0) in omega arith
-
-mul-note-entry : tie.Need-mul-note-entry Inv-loop μ-loop
-mul-note-entry c = let b = bounds (c .before .before .before .before .before .before .before .pre .0) in omega arith
 
 shared-slice-read-note-entry : tie.Need-shared-slice-read-note-entry Inv-loop μ-loop
 shared-slice-read-note-entry c = let b = bounds (c .before .before .before .before .before .before .before .before .pre .0) in omega arith
@@ -42,26 +29,18 @@ note-entry-requires c κs =
     let b = bounds (c .before .before .before .before .before .before .before .before .pre .0) in
     (c .before .before .before .loop .inv .1, omega arith)
 
-add-i : tie.Need-add-i Inv-loop μ-loop
-add-i c = search needs
-
-loop-less : tie.Need-loop-less Inv-loop μ-loop
-loop-less c = search needs
-
 loop-again : tie.Need-loop-again Inv-loop μ-loop
 loop-again c =
-    let d = c .before .before .before .before .before .before .before .before .before .before .before .pre .0 in
+    let start = c .before .before .before .before .before .before .before .before .before .before .before in
+    let d = start .pre .0 in
     let v = c .before .before .before .before .before .before .loop .inv in (
       omega arith,
       c .before .before .note-entry .kept .0 ∙ v .1,
-      noted-entry (c .before .before .before .before .before .before .before .before .before .before .before .args .words .now) _ _
+      noted-entry (start .args .words .now) _ _
           (c .before .before .before .before .before .before .loop .i) (v .2)
           (rw (← entry-word _ _ d (c .before .before .before .before .before .before .before .before .pow2 .ensures), d .segments-read)
           (c .before .before .note-entry .ensures)),
     )
-
-same-length : tie.Need-same-length Inv-loop μ-loop
-same-length c = search needs
 
 returns : tie.Need-returns Inv-loop μ-loop
 returns c =
@@ -75,15 +54,15 @@ note-named-spec =
     (tie.spec
     Inv-loop
     μ-loop
-    pow2-requires
-    cast-segments
+    (λ c κs. let b = bounds (c .before .before .pre .0) in omega arith)
+    (λ c. search needs)
     loop-holds
-    add-note-entry
-    mul-note-entry
+    (λ c. let b = bounds (c .before .before .before .before .before .before .before .pre .0) in omega arith)
+    (λ c. let b = bounds (c .before .before .before .before .before .before .before .pre .0) in omega arith)
     shared-slice-read-note-entry
     note-entry-requires
-    add-i
-    loop-less
+    (λ c. search needs)
+    (λ c. search needs)
     loop-again
-    same-length
+    (λ c. search needs)
     returns)

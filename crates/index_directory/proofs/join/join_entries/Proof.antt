@@ -1,5 +1,4 @@
 -- `index_directory::join::join_entries` meets its contract. The invariant: the stores so far are due.
--- Assumes nothing.
 use Prim.Native.Nat.{ℕ, _+_, _-_, _≤_}
 use borrow.Author.Needs.{needs}
 use native.Mathlib.Omega.{arith}
@@ -24,23 +23,11 @@ Inv-loop words₀ allowance due first count entry due₁ t₀ words due′ t =
 abbrev μ-loop : tie.MeasureT-loop
 μ-loop words₀ allowance due first count entry due₁ t₀ words due′ t = count - t
 
-pow2-requires : tie.Need-pow2-requires Inv-loop μ-loop
-pow2-requires c κs = search needs
-
 add-first : tie.Need-add-first Inv-loop μ-loop
 add-first c = let f = joined-fit (c .before .before .before .pre .0) in omega (arith, f .entries, f .inside, c .before .pow2 .ensures)
 
-block-width-requires : tie.Need-block-width-requires Inv-loop μ-loop
-block-width-requires c κs = search needs
-
-pack-entry-requires : tie.Need-pack-entry-requires Inv-loop μ-loop
-pack-entry-requires c κs = search needs
-
 loop-holds : tie.Need-loop-holds Inv-loop μ-loop
 loop-holds c = (omega arith, omega arith, search needs, before-loop (λ (t : ℕ). store (_ + t) _ ∷ []) _ _ _)
-
-add-store-word : tie.Need-add-store-word Inv-loop μ-loop
-add-store-word c = search needs
 
 store-word-requires : tie.Need-store-word-requires Inv-loop μ-loop
 store-word-requires c κs =
@@ -50,12 +37,6 @@ store-word-requires c κs =
       omega (arith, f .inside, f .room, w, c .before .before .before .before .before .before .pow2 .ensures, i .2),
       omega (arith, f .inside, f .entries, w, i .1, c .before .before .before .before .before .before .before .before .pre .1),
     )
-
-add-t : tie.Need-add-t Inv-loop μ-loop
-add-t c = search needs
-
-loop-less : tie.Need-loop-less Inv-loop μ-loop
-loop-less c = search needs
 
 loop-again : tie.Need-loop-again Inv-loop μ-loop
 loop-again c =
@@ -68,9 +49,6 @@ loop-again c =
       after-turn (λ (t : ℕ). store (_ + t) _ ∷ []) t _ _ _ _ _ _ _ (i .3) p,
     )
 
-same-length : tie.Need-same-length Inv-loop μ-loop
-same-length c = search needs
-
 returns : tie.Need-returns Inv-loop μ-loop
 returns c =
     let b = c .before .before .before .before .before .before .before .args .block in
@@ -79,4 +57,4 @@ returns c =
     (c .before .before .pack-entry .ensures) (rw all at (c .before .loop .inv .3))
 
 pub join-entries-spec : {M : Type 1} → statement M
-join-entries-spec = tie.close (tie.spec Inv-loop μ-loop pow2-requires add-first block-width-requires pack-entry-requires loop-holds add-store-word store-word-requires add-t loop-less loop-again same-length returns)
+join-entries-spec = tie.close (tie.spec Inv-loop μ-loop (λ c κs. search needs) add-first (λ c κs. search needs) (λ c κs. search needs) loop-holds (λ c. search needs) store-word-requires (λ c. search needs) (λ c. search needs) loop-again (λ c. search needs) returns)

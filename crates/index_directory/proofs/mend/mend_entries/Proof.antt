@@ -1,5 +1,4 @@
 -- `index_directory::mend::mend_entries` meets its contract.
--- Assumes nothing.
 use borrow.Author.Needs.{needs}
 use mathlib.Core.Path.{_≡_, _∙_}
 use Prim.Native.Nat.{_+_, _-_, _≤_}
@@ -27,22 +26,10 @@ Inv-loop words₀ header allowance due count block₀ due₁ i₀ words block du
 abbrev μ-loop : tie.MeasureT-loop
 μ-loop words₀ header allowance due count block₀ due₁ i₀ words block due′ i = count - i
 
-pow2-requires : tie.Need-pow2-requires Inv-loop μ-loop
-pow2-requires c κs = let b = bounds (c .before .pre .0 .0) in omega arith
-
 loop-holds : tie.Need-loop-holds Inv-loop μ-loop
 loop-holds c =
     let a = c .before .before .args .words .now in
     (omega arith, omega arith, search needs, at-start _ _ _, before-loop (mendEntry a (depth a)) _ _ _)
-
-add-at : tie.Need-add-at Inv-loop μ-loop
-add-at c = let b = bounds (c .before .before .before .before .pre .0 .0) in omega arith
-
-mul-next-block : tie.Need-mul-next-block Inv-loop μ-loop
-mul-next-block c = let b = bounds (c .before .before .before .before .pre .0 .0) in omega arith
-
-slice-read-next-block : tie.Need-slice-read-next-block Inv-loop μ-loop
-slice-read-next-block c = let b = bounds (c .before .before .before .before .before .pre .0 .0) in omega arith
 
 next-block-requires : tie.Need-next-block-requires Inv-loop μ-loop
 next-block-requires c κs =
@@ -68,17 +55,15 @@ add-i c =
     let b = bounds (c .before .before .before .before .before .before .before .before .before .before .pre .0 .0) in omega
     (arith, c .before .before .before .before .before .before)
 
-loop-less : tie.Need-loop-less Inv-loop μ-loop
-loop-less c = omega (arith, c .before .before .before .before .before .before)
-
 loop-again : tie.Need-loop-again Inv-loop μ-loop
 loop-again c =
-    let d = c .before .before .before .before .before .before .before .before .before .before .pre .0 .0 in
+    let start = c .before .before .before .before .before .before .before .before .before .before in
+    let d = start .pre .0 .0 in
     let k = c .before .before .before .before .before .before .before .before .pow2 .ensures in
     let i = c .before .before .before .before .before .before .before .loop .inv in
     let n = c .before .before .before .before .next-block .result in
     let p = c .before .before .mend-entry .ensures in
-    let f = mend-found d _ _ _ k (c .before .before .before .before .before .before .before .before .before .before .pre .0 .1)
+    let f = mend-found d _ _ _ k (start .pre .0 .1)
     (c .before .before .before .before .before .before .before .loop .i) _ _
     (c .before .before .before .before .before .before .before .loop .block) n
     (c .before .before .before .before .before .before .loop-test .taken) (i .3) (i .4)
@@ -104,15 +89,15 @@ mend-entries-spec =
     (tie.spec
     Inv-loop
     μ-loop
-    pow2-requires
+    (λ c κs. let b = bounds (c .before .pre .0 .0) in omega arith)
     loop-holds
-    add-at
-    mul-next-block
-    slice-read-next-block
+    (λ c. let b = bounds (c .before .before .before .before .pre .0 .0) in omega arith)
+    (λ c. let b = bounds (c .before .before .before .before .pre .0 .0) in omega arith)
+    (λ c. let b = bounds (c .before .before .before .before .before .pre .0 .0) in omega arith)
     next-block-requires
     mend-entry-requires
     add-i
-    loop-less
+    (λ c. omega (arith, c .before .before .before .before .before .before))
     loop-again
     same-length
     returns)

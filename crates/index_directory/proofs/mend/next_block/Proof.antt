@@ -1,5 +1,4 @@
 -- `index_directory::mend::next_block` meets its contract.
--- Assumes nothing.
 use borrow.Author.Needs.{needs}
 use borrow.Author.Tests.{lt-ltb, le-ltb}
 use native.Mathlib.Omega.{arith}
@@ -9,9 +8,6 @@ use Rattle.index_directory.proofs.mend.next_block.Tie as tie
 
 returns : tie.Need-returns
 returns c = rw (lt-ltb _ _ (c .if1 .taken))
-
-local-depth-of-requires : tie.Need-local-depth-of-requires
-local-depth-of-requires c κs = search needs
 
 block-width-requires : tie.Need-block-width-requires
 block-width-requires c κs = (rw (c .local-depth-of .ensures) (c .before .before .before .pre .2 (c .before .if1 .left)), omega arith)
@@ -26,4 +22,4 @@ returns-2 c = rw (le-ltb _ _ (c .before .before .if1 .left), c .block-width .ens
 
 pub next-block-spec : {M : Type 1} → statement M
 next-block-spec =
-    tie.close (tie.spec returns local-depth-of-requires block-width-requires add-end returns-2)
+    tie.close (tie.spec returns (λ c κs. search needs) block-width-requires add-end returns-2)

@@ -1,5 +1,4 @@
 -- `index_directory::scan::scan` meets its contract.
--- Assumes nothing.
 use borrow.Author.Needs.{needs}
 use Prim.Native.Nat.{_-_, _≤_}
 use native.Mathlib.Omega.{arith}
@@ -17,35 +16,15 @@ Inv-loop words header count block₀ agree₀ i₀ block agree i =
 abbrev μ-loop : tie.MeasureT-loop
 μ-loop words header count block₀ agree₀ i₀ block agree i = count - i
 
-pow2-requires : tie.Need-pow2-requires Inv-loop μ-loop
-pow2-requires c κs = let b = bounds (c .before .pre) in omega arith
-
 loop-holds : tie.Need-loop-holds Inv-loop μ-loop
 loop-holds c = (omega arith, scan-start _ _ _)
 
-add-scan-entry : tie.Need-add-scan-entry Inv-loop μ-loop
-add-scan-entry c = let b = bounds (c .before .before .before .before .pre) in omega arith
-
-mul-scan-entry : tie.Need-mul-scan-entry Inv-loop μ-loop
-mul-scan-entry c = let b = bounds (c .before .before .before .before .pre) in omega arith
-
-shared-slice-read-scan-entry : tie.Need-shared-slice-read-scan-entry Inv-loop μ-loop
-shared-slice-read-scan-entry c = let b = bounds (c .before .before .before .before .before .pre) in omega arith
-
-scan-entry-requires : tie.Need-scan-entry-requires Inv-loop μ-loop
-scan-entry-requires c κs = let b = bounds (c .before .before .before .before .before .pre) in omega arith
-
-enum-known-next : tie.Need-enum-known-next Inv-loop μ-loop
-enum-known-next c = search needs
-
-enum-known-verdict : tie.Need-enum-known-verdict Inv-loop μ-loop
-enum-known-verdict c = search needs
-
 returns : tie.Need-returns Inv-loop μ-loop
 returns c =
-    let d = c .before .before .before .before .before .before .before .before .before .pre in
+    let start = c .before .before .before .before .before .before .before .before .before in
+    let d = start .pre in
     let l = c .before .before .before .before .before .before .loop in
-    scan-stops (c .before .before .before .before .before .before .before .before .before .args .words .now) (l .i) (l .block) (l .agree)
+    scan-stops (start .args .words .now) (l .i) (l .block) (l .agree)
     (c .before .verdict .given .0 .0) (c .before .before .before .scan-entry .result)
     (rw (d .depth-read) (omega arith)) (l .inv .1) (c .before .verdict .given .1)
     (rw (← entry-word _ _ d (c .before .before .before .before .before .before .before .pow2 .ensures), d .depth-read, d .segments-read)
@@ -55,9 +34,6 @@ add-i : tie.Need-add-i Inv-loop μ-loop
 add-i c =
     let b = bounds (c .before .before .before .before .before .before .before .before .before .pre) in omega
     (arith, c .before .before .before .before .before .before .before .pow2 .ensures)
-
-loop-less : tie.Need-loop-less Inv-loop μ-loop
-loop-less c = search needs
 
 loop-again : tie.Need-loop-again Inv-loop μ-loop
 loop-again c =
@@ -91,17 +67,17 @@ scan-spec =
     (tie.spec
     Inv-loop
     μ-loop
-    pow2-requires
+    (λ c κs. let b = bounds (c .before .pre) in omega arith)
     loop-holds
-    add-scan-entry
-    mul-scan-entry
-    shared-slice-read-scan-entry
-    scan-entry-requires
-    enum-known-next
-    enum-known-verdict
+    (λ c. let b = bounds (c .before .before .before .before .pre) in omega arith)
+    (λ c. let b = bounds (c .before .before .before .before .pre) in omega arith)
+    (λ c. let b = bounds (c .before .before .before .before .before .pre) in omega arith)
+    (λ c κs. let b = bounds (c .before .before .before .before .before .pre) in omega arith)
+    (λ c. search needs)
+    (λ c. search needs)
     returns
     add-i
-    loop-less
+    (λ c. search needs)
     loop-again
     returns-2
     returns-3)

@@ -1,5 +1,4 @@
 -- `index_directory::scan::scan_entry` meets its contract.
--- Assumes nothing.
 use borrow.Author.Needs.{needs}
 use borrow.Author.Tests.{lt-ltb, le-ltb, eq-eqb, ne-eqb}
 use mathlib.Core.Path.{_≡_, sym, _∙_}
@@ -22,15 +21,6 @@ returns c = rw (lt-ltb _ _ (c .before .before .if1 .taken), eq-eqb _ _ (c .if2 .
 returns-2 : tie.Need-returns-2
 unfolding scanAt
 returns-2 c = rw (lt-ltb _ _ (c .before .before .if1 .taken), ne-eqb _ _ (c .if2 .left))
-
-open-entry-requires : tie.Need-open-entry-requires
-open-entry-requires c κs = search needs
-
-enum-known-local-depth : tie.Need-enum-known-local-depth
-enum-known-local-depth c = search needs
-
-enum-told : tie.Need-enum-told
-enum-told c = search needs
 
 returns-3 : tie.Need-returns-3
 unfolding scanAt validLeader
@@ -80,9 +70,9 @@ scan-entry-spec =
     (tie.spec
     returns
     returns-2
-    open-entry-requires
-    enum-known-local-depth
-    enum-told
+    (λ c κs. search needs)
+    (λ c. search needs)
+    (λ c. search needs)
     returns-3
     block-width-requires
     sub-if3

@@ -1,5 +1,4 @@
 -- `index_directory::update::fill_entries` meets its contract.
--- Assumes nothing.
 use borrow.Author.Needs.{needs}
 use mathlib.Core.Path.{_≡_, _∙_}
 use mathlib.Core.List.{[], _∷_}
@@ -29,23 +28,8 @@ loop-holds c =
     let a = c .before .args in
     (omega arith, omega arith, search needs, before-loop (λ (t : ℕ). store (a .first + (a .count - suc t)) (a .entry) ∷ []) _ _ _)
 
-sub-from-right : tie.Need-sub-from-right Inv-loop μ-loop
-sub-from-right c = search needs
-
-sub-from-right-2 : tie.Need-sub-from-right-2 Inv-loop μ-loop
-sub-from-right-2 c = search needs
-
-add-store-word : tie.Need-add-store-word Inv-loop μ-loop
-add-store-word c = search needs
-
 store-word-requires : tie.Need-store-word-requires Inv-loop μ-loop
 store-word-requires c κs = (omega arith, omega arith)
-
-add-t : tie.Need-add-t Inv-loop μ-loop
-add-t c = omega (arith, c .before .before .before .before)
-
-loop-less : tie.Need-loop-less Inv-loop μ-loop
-loop-less c = omega (arith, c .before .before .before .before)
 
 loop-again : tie.Need-loop-again Inv-loop μ-loop
 loop-again c =
@@ -76,12 +60,12 @@ fill-entries-spec =
     Inv-loop
     μ-loop
     loop-holds
-    sub-from-right
-    sub-from-right-2
-    add-store-word
+    (λ c. search needs)
+    (λ c. search needs)
+    (λ c. search needs)
     store-word-requires
-    add-t
-    loop-less
+    (λ c. omega (arith, c .before .before .before .before))
+    (λ c. omega (arith, c .before .before .before .before))
     loop-again
     same-length
     returns)

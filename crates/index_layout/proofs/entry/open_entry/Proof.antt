@@ -1,17 +1,10 @@
 -- `index_layout::entry::open_entry` meets its contract.
--- Assumes nothing.
 use borrow.Author.Needs.{needs}
 use borrow.Author.Tests.{le-leb, lt-leb, lt-ltb, le-ltb}
 use Rattle.index_rules.specs.Scan.{inRange}
 use Rattle.index_layout.proofs.Entries.{says-in-range, says-broken}
 use Rattle.index_layout.proofs.entry.open_entry.Statement.{statement}
 use Rattle.index_layout.proofs.entry.open_entry.Tie as tie
-
-segment-of-requires : tie.Need-segment-of-requires
-segment-of-requires c κs = search needs
-
-local-depth-of-requires : tie.Need-local-depth-of-requires
-local-depth-of-requires c κs = search needs
 
 returns : tie.Need-returns
 unfolding inRange
@@ -42,4 +35,4 @@ returns-3 c =
 
 pub open-entry-spec : {M : Type 1} → statement M
 open-entry-spec =
-    tie.close (tie.spec segment-of-requires local-depth-of-requires returns returns-2 returns-3)
+    tie.close (tie.spec (λ c κs. search needs) (λ c κs. search needs) returns returns-2 returns-3)

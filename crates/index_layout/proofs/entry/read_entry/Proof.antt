@@ -1,26 +1,10 @@
 -- `index_layout::entry::read_entry` meets its contract.
--- Assumes nothing.
 use borrow.Author.Needs.{needs}
 use native.Mathlib.Omega.{arith}
 use Rattle.index_layout.proofs.Shapes.{bounds}
 use Rattle.index_layout.proofs.Entries.{entry-word}
 use Rattle.index_layout.proofs.entry.read_entry.Statement.{statement}
 use Rattle.index_layout.proofs.entry.read_entry.Tie as tie
-
-pow2-requires : tie.Need-pow2-requires
-pow2-requires c κs = let b = bounds (c .before .pre .0) in omega arith
-
-add-at : tie.Need-add-at
-add-at c = let b = bounds (c .before .before .pre .0) in omega arith
-
-mul-open-entry : tie.Need-mul-open-entry
-mul-open-entry c = let b = bounds (c .before .before .pre .0) in omega arith
-
-shared-slice-read-open-entry : tie.Need-shared-slice-read-open-entry
-shared-slice-read-open-entry c = let b = bounds (c .before .before .before .pre .0) in omega arith
-
-open-entry-requires : tie.Need-open-entry-requires
-open-entry-requires c κs = search needs
 
 returns : tie.Need-returns
 returns c =
@@ -31,9 +15,9 @@ pub read-entry-spec : {M : Type 1} → statement M
 read-entry-spec =
     tie.close
     (tie.spec
-    pow2-requires
-    add-at
-    mul-open-entry
-    shared-slice-read-open-entry
-    open-entry-requires
+    (λ c κs. let b = bounds (c .before .pre .0) in omega arith)
+    (λ c. let b = bounds (c .before .before .pre .0) in omega arith)
+    (λ c. let b = bounds (c .before .before .pre .0) in omega arith)
+    (λ c. let b = bounds (c .before .before .before .pre .0) in omega arith)
+    (λ c κs. search needs)
     returns)

@@ -1,5 +1,4 @@
 -- `index_layout::entry::segment_of` meets its contract.
--- Assumes nothing.
 use borrow.Author.Needs.{needs}
 use Rattle.index_rules.specs.Layout.{segmentOf}
 use Rattle.index_layout.proofs.entry.segment_of.Statement.{statement}

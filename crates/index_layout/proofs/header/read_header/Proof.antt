@@ -1,5 +1,4 @@
 -- `index_layout::header::read_header` meets its contract.
--- Assumes nothing.
 use borrow.Author.Needs.{needs}
 use borrow.Author.Tests.{eq-eqb, ne-eqb, le-leb, lt-leb, not-true, not-false}
 use mathlib.Core.Path.{sym, _∙_}
@@ -11,15 +10,9 @@ use Rattle.index_layout.proofs.header.read_header.Tie as tie
 returns : tie.Need-returns
 returns c = says-not-valid _ (empty-not-valid _ (c .if1 .taken))
 
-shared-slice-read-word : tie.Need-shared-slice-read-word
-shared-slice-read-word c = search needs
-
 returns-2 : tie.Need-returns-2
 unfolding validHeader markIn
 returns-2 c = says-not-valid _ (rw (ne-eqb _ _ (c .if2 .taken)))
-
-valid-shape-requires : tie.Need-valid-shape-requires
-valid-shape-requires c κs = search needs
 
 returns-3 : tie.Need-returns-3
 unfolding validHeader markIn maxDepthIn segmentsIn
@@ -50,15 +43,6 @@ returns-5 c =
       lt-leb _ _ (c .if5 .taken),
     ))
 
-cast-t12 : tie.Need-cast-t12
-cast-t12 c = search needs
-
-cast-t13 : tie.Need-cast-t13
-cast-t13 c = search needs
-
-cast-t14 : tie.Need-cast-t14
-cast-t14 c = search needs
-
 returns-6 : tie.Need-returns-6
 unfolding validHeader markIn depthIn maxDepthIn segmentsIn
 returns-6 c =
@@ -76,14 +60,14 @@ read-header-spec =
     tie.close
     (tie.spec
     returns
-    shared-slice-read-word
+    (λ c. search needs)
     returns-2
-    valid-shape-requires
+    (λ c κs. search needs)
     returns-3
     returns-4
     words-for-requires
     returns-5
-    cast-t12
-    cast-t13
-    cast-t14
+    (λ c. search needs)
+    (λ c. search needs)
+    (λ c. search needs)
     returns-6)

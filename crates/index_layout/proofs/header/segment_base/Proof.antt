@@ -1,5 +1,4 @@
 -- `index_layout::header::segment_base` meets its contract.
--- Assumes nothing.
 use borrow.Author.Needs.{needs}
 use native.Mathlib.Omega.{arith}
 use native.Mathlib.Numerals.{add-one}
@@ -8,15 +7,6 @@ use lib.Pow.{pow-mono}
 use Rattle.index_rules.specs.Layout.{segmentAddress}
 use Rattle.index_layout.proofs.header.segment_base.Statement.{statement}
 use Rattle.index_layout.proofs.header.segment_base.Tie as tie
-
-add-pow2 : tie.Need-add-pow2
-add-pow2 c = search needs
-
-pow2-requires : tie.Need-pow2-requires
-pow2-requires c κs = search needs
-
-mul-result : tie.Need-mul-result
-mul-result c = search needs
 
 add-result : tie.Need-add-result
 add-result c =
@@ -28,4 +18,4 @@ unfolding segmentAddress
 returns c = rw (c .pow2 .ensures, add-one)
 
 pub segment-base-spec : {M : Type 1} → statement M
-segment-base-spec = tie.close (tie.spec add-pow2 pow2-requires mul-result add-result returns)
+segment-base-spec = tie.close (tie.spec (λ c. search needs) (λ c κs. search needs) (λ c. search needs) add-result returns)

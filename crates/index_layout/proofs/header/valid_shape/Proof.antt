@@ -1,5 +1,4 @@
 -- `index_layout::header::valid_shape` meets its contract.
--- Assumes nothing.
 use borrow.Author.Needs.{needs}
 use borrow.Author.Tests.{le-leb, lt-leb}
 use Rattle.index_rules.specs.Layout.{validShape}
@@ -10,9 +9,6 @@ returns : tie.Need-returns
 unfolding validShape
 returns c = rw (lt-leb 2 _ (c .if1 .taken))
 
-cast-if2 : tie.Need-cast-if2
-cast-if2 c = search needs
-
 returns-2 : tie.Need-returns-2
 unfolding validShape
 returns-2 c = rw (le-leb 2 _ (c .before .if1 .left), lt-leb _ 12 (c .if2 .taken))
@@ -20,12 +16,6 @@ returns-2 c = rw (le-leb 2 _ (c .before .if1 .left), lt-leb _ 12 (c .if2 .taken)
 returns-3 : tie.Need-returns-3
 unfolding validShape
 returns-3 c = rw (le-leb 2 _ (c .before .before .if1 .left), le-leb _ 12 (c .before .if2 .left), lt-leb 1 _ (c .if3 .taken))
-
-cast-pow2 : tie.Need-cast-pow2
-cast-pow2 c = search needs
-
-pow2-requires : tie.Need-pow2-requires
-pow2-requires c κs = search needs
 
 returns-4 : tie.Need-returns-4
 unfolding validShape
@@ -38,4 +28,4 @@ returns-4 c =
     )
 
 pub valid-shape-spec : {M : Type 1} → statement M
-valid-shape-spec = tie.close (tie.spec returns cast-if2 returns-2 returns-3 cast-pow2 pow2-requires returns-4)
+valid-shape-spec = tie.close (tie.spec returns (λ c. search needs) returns-2 returns-3 (λ c. search needs) (λ c κs. search needs) returns-4)

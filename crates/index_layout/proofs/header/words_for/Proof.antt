@@ -1,5 +1,4 @@
 -- `index_layout::header::words_for` meets its contract.
--- Assumes nothing.
 use native.Mathlib.Omega.{arith}
 use native.Mathlib.Numerals.{add-one}
 use Prim.Native.Nat.{_+_, _^_, _≤_}
@@ -8,18 +7,6 @@ use Rattle.index_rules.specs.Layout.{wordsFor}
 use Rattle.index_layout.proofs.Shapes.{shape}
 use Rattle.index_layout.proofs.header.words_for.Statement.{statement}
 use Rattle.index_layout.proofs.header.words_for.Tie as tie
-
-cast-pow2 : tie.Need-cast-pow2
-cast-pow2 c = let s = shape _ _ (c .pre) in omega arith
-
-add-pow2 : tie.Need-add-pow2
-add-pow2 c = let s = shape _ _ (c .pre) in omega arith
-
-pow2-requires : tie.Need-pow2-requires
-pow2-requires c κs = let s = shape _ _ (c .pre) in omega arith
-
-mul-result : tie.Need-mul-result
-mul-result c = let s = shape _ _ (c .before .pre) in omega arith
 
 add-result : tie.Need-add-result
 add-result c =
@@ -32,4 +19,12 @@ unfolding wordsFor
 returns c = rw (c .pow2 .ensures, add-one)
 
 pub words-for-spec : {M : Type 1} → statement M
-words-for-spec = tie.close (tie.spec cast-pow2 add-pow2 pow2-requires mul-result add-result returns)
+words-for-spec =
+    tie.close
+    (tie.spec
+    (λ c. let s = shape _ _ (c .pre) in omega arith)
+    (λ c. let s = shape _ _ (c .pre) in omega arith)
+    (λ c κs. let s = shape _ _ (c .pre) in omega arith)
+    (λ c. let s = shape _ _ (c .before .pre) in omega arith)
+    add-result
+    returns)

@@ -1,5 +1,4 @@
 -- `index_layout::key::block_bits` meets its contract.
--- Assumes nothing.
 use borrow.Author.Needs.{needs}
 use mathlib.Core.Path.{_≡_, sym, _∙_}
 use Prim.Native.Nat.{ℕ, suc, _+_, _-_, _*_, _/_, _%_, _^_, _≤_, _<_}
@@ -26,15 +25,6 @@ abbrev μ-loop : tie.MeasureT-loop
 one-more : (b t : ℕ) → b / 2 ^ t % 2 * 2 ^ t + b % 2 ^ t ≡ b % 2 ^ suc t
 one-more b t = sym (rw one-add at (mod-pow-add b 1 t))
 
-sub-bits : tie.Need-sub-bits Inv-loop μ-loop
-sub-bits c = search needs
-
-cast-bits : tie.Need-cast-bits Inv-loop μ-loop
-cast-bits c = search needs
-
-shr-bits : tie.Need-shr-bits Inv-loop μ-loop
-shr-bits c = search needs
-
 loop-holds : tie.Need-loop-holds Inv-loop μ-loop
 loop-holds c =
     (sym (blockBits-shift _ _ _) ∙ sym (div-one _), first-zero _ ∙ sym (mod-one _), omega arith, omega arith)
@@ -44,12 +34,6 @@ mul-reversed c = let p : 2 ^ c .before .loop .counter ≤ 4096 = pow-mono {j = 1
 
 add-reversed : tie.Need-add-reversed Inv-loop μ-loop
 add-reversed c = let p : 2 ^ c .before .loop .counter ≤ 4096 = pow-mono {j = 12} (omega arith) in omega arith
-
-add-counter : tie.Need-add-counter Inv-loop μ-loop
-add-counter c = search needs
-
-loop-less : tie.Need-loop-less Inv-loop μ-loop
-loop-less c = search needs
 
 loop-again : tie.Need-loop-again Inv-loop μ-loop
 loop-again c =
@@ -76,13 +60,13 @@ block-bits-spec =
     (tie.spec
     Inv-loop
     μ-loop
-    sub-bits
-    cast-bits
-    shr-bits
+    (λ c. search needs)
+    (λ c. search needs)
+    (λ c. search needs)
     loop-holds
     mul-reversed
     add-reversed
-    add-counter
-    loop-less
+    (λ c. search needs)
+    (λ c. search needs)
     loop-again
     returns)

@@ -1,5 +1,4 @@
 -- `index_layout::key::directory_index` meets its contract.
--- Assumes nothing.
 use borrow.Author.Needs.{needs}
 use mathlib.Core.Path.{_≡_, sym, _∙_}
 use Prim.Native.Nat.{ℕ, _+_, _*_, _/_, _<_}
@@ -20,14 +19,8 @@ twelve bits =
     let twice : bits / 16 / 16 ≡ bits / 256 = omega arith in
     first-joined bits 4 8 ∙ rw (rest, twice) (omega arith)
 
-first-four-requires : tie.Need-first-four-requires
-first-four-requires c κs = search needs
-
 mul-all : tie.Need-mul-all
 mul-all c = let s : c .first-four .result < 16 = rw (c .first-four .ensures) (small _) in omega arith
-
-first-four-requires-2 : tie.Need-first-four-requires-2
-first-four-requires-2 c κs = search needs
 
 mul-all-2 : tie.Need-mul-all-2
 mul-all-2 c = let s : c .first-four2 .result < 16 = rw (c .first-four2 .ensures) (small _) in omega arith
@@ -38,24 +31,12 @@ add-all c =
     let t : c .first-four2 .result < 16 = rw (c .first-four2 .ensures) (small _) in
     omega arith
 
-first-four-requires-3 : tie.Need-first-four-requires-3
-first-four-requires-3 c κs = search needs
-
 add-all-2 : tie.Need-add-all-2
 add-all-2 c =
     let s : c .before .before .first-four .result < 16 = rw (c .before .before .first-four .ensures) (small _) in
     let t : c .before .first-four2 .result < 16 = rw (c .before .first-four2 .ensures) (small _) in
     let u : c .first-four3 .result < 16 = rw (c .first-four3 .ensures) (small _) in
     omega arith
-
-sub-result : tie.Need-sub-result
-sub-result c = search needs
-
-cast-result : tie.Need-cast-result
-cast-result c = search needs
-
-shr-result : tie.Need-shr-result
-shr-result c = search needs
 
 returns : tie.Need-returns
 returns c =
@@ -71,14 +52,14 @@ pub directory-index-spec : {M : Type 1} → statement M
 directory-index-spec =
     tie.close
     (tie.spec
-    first-four-requires
+    (λ c κs. search needs)
     mul-all
-    first-four-requires-2
+    (λ c κs. search needs)
     mul-all-2
     add-all
-    first-four-requires-3
+    (λ c κs. search needs)
     add-all-2
-    sub-result
-    cast-result
-    shr-result
+    (λ c. search needs)
+    (λ c. search needs)
+    (λ c. search needs)
     returns)

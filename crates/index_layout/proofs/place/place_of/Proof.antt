@@ -1,5 +1,4 @@
 -- `index_layout::place::place_of` meets its contract.
--- Assumes nothing.
 use native.Mathlib.Omega.{arith}
 use Rattle.index_layout.proofs.Shapes.{bounds}
 use Rattle.index_layout.proofs.Places.{key-index-lt, entry-segment, placed-at, placed-broken}
@@ -7,20 +6,8 @@ use borrow.Author.Needs.{needs}
 use Rattle.index_layout.proofs.place.place_of.Statement.{statement}
 use Rattle.index_layout.proofs.place.place_of.Tie as tie
 
-open-key-requires : tie.Need-open-key-requires
-open-key-requires c κs = search needs
-
-directory-index-requires : tie.Need-directory-index-requires
-directory-index-requires c κs = let b = bounds (c .before .before .pre) in omega arith
-
 read-entry-requires : tie.Need-read-entry-requires
 read-entry-requires c κs = (c .before .before .before .pre, key-index-lt (c .before .before .before .pre) _ _ _ (c .before .open-key .ensures .1) (c .directory-index .ensures))
-
-enum-known-segment : tie.Need-enum-known-segment
-enum-known-segment c = search needs
-
-enum-told : tie.Need-enum-told
-enum-told c = search needs
 
 returns : tie.Need-returns
 returns c =
@@ -39,11 +26,11 @@ pub place-of-spec : {M : Type 1} → statement M
 place-of-spec =
     tie.close
     (tie.spec
-    open-key-requires
-    directory-index-requires
+    (λ c κs. search needs)
+    (λ c κs. let b = bounds (c .before .before .pre) in omega arith)
     read-entry-requires
-    enum-known-segment
-    enum-told
+    (λ c. search needs)
+    (λ c. search needs)
     returns
     segment-base-requires
     returns-2)

@@ -1,6 +1,5 @@
 -- `index_segment::choice::choose` meets its contract. The invariant: no slot of the buckets so far has the key, and `empty` and
 -- `usable` are the first empty and the first usable one of them.
--- Assumes nothing.
 use Prim.Native.Nat.{_-_, _≤_}
 use borrow.Author.Needs.{needs}
 use native.Mathlib.Omega.{arith}
@@ -29,17 +28,11 @@ abbrev μ-loop : tie.MeasureT-loop
 loop-holds : tie.Need-loop-holds Inv-loop μ-loop
 loop-holds c = (search needs, no-bucket-yet _ _, sym (no-bucket-yet _ _), sym (no-bucket-yet _ _))
 
-window-bucket-requires : tie.Need-window-bucket-requires Inv-loop μ-loop
-window-bucket-requires c κs = search needs
-
 bucket-at-requires : tie.Need-bucket-at-requires Inv-loop μ-loop
 bucket-at-requires c κs = (search needs, omega (arith, windowBucket-lt (c .before .before .before .before .args .key) (c .before .before .loop .b)))
 
 slot-with-key-requires : tie.Need-slot-with-key-requires Inv-loop μ-loop
 slot-with-key-requires c κs = omega (arith, windowBucket-lt (c .before .before .before .before .before .args .key) (c .before .before .before .loop .b))
-
-enum-known-slot : tie.Need-enum-known-slot Inv-loop μ-loop
-enum-known-slot c = search needs
 
 returns : tie.Need-returns Inv-loop μ-loop
 returns c =
@@ -52,28 +45,17 @@ returns c =
     (choose-found (u .segment .now) (u .block .«local_depth») _ (u .key) (slot .0 .0)
     (bucket-hit _ (u .key) (here .b) (number .result) (number .ensures) (here .inv .1) _ (search needs) (sym first ∙ ap hitOf (slot .1))))
 
-enum-told : tie.Need-enum-told Inv-loop μ-loop
-enum-told c = search needs
-
 slot-with-key-requires-2 : tie.Need-slot-with-key-requires-2 Inv-loop μ-loop
 slot-with-key-requires-2 c κs = omega (arith, windowBucket-lt (c .before .before .before .before .before .before .before .before .args .key) (c .before .before .before .before .before .before .loop .b))
-
-first-of-requires : tie.Need-first-of-requires Inv-loop μ-loop
-first-of-requires c κs = search needs
 
 usable-from-requires : tie.Need-usable-from-requires Inv-loop μ-loop
 usable-from-requires c κs = (omega (arith, windowBucket-lt (c .before .before .before .before .before .before .before .before .before .before .args .key) (c .before .before .before .before .before .before .before .before .loop .b)), search needs)
 
-add-b : tie.Need-add-b Inv-loop μ-loop
-add-b c = search needs
-
-loop-less : tie.Need-loop-less Inv-loop μ-loop
-loop-less c = search needs
-
 loop-again : tie.Need-loop-again Inv-loop μ-loop
 loop-again c =
-    let u = c .before .before .before .before .before .before .before .before .before .before .before .args in
-    let here = c .before .before .before .before .before .before .before .before .before .loop in
+    let at-loop = c .before .before .before .before .before .before .before .before .before in
+    let u = at-loop .before .before .args in
+    let here = at-loop .loop in
     let number = c .before .before .before .before .before .before .before .window-bucket in
     let bucket = c .before .before .before .before .before .before .bucket-at .ensures in
     let first = c .before .before .before .before .before .slot-with-key .ensures (u .segment .now) bucket in
@@ -86,15 +68,6 @@ loop-again c =
           ∙ bucket-joined _ (u .key) (here .b) (number .result) _ (number .ensures) (here .inv .2),
       c .usable-from .ensures (u .segment .now) bucket ∙ bucket-joined _ (u .key) (here .b) (number .result) _ (number .ensures) (here .inv .3),
     )
-
-first-of-requires-2 : tie.Need-first-of-requires-2 Inv-loop μ-loop
-first-of-requires-2 c κs = search needs
-
-enum-known-taken : tie.Need-enum-known-taken Inv-loop μ-loop
-enum-known-taken c = search needs
-
-enum-told-2 : tie.Need-enum-told-2 Inv-loop μ-loop
-enum-told-2 c = search needs
 
 returns-2 : tie.Need-returns-2 Inv-loop μ-loop
 unfolding chosen
@@ -123,20 +96,20 @@ choose-spec =
     Inv-loop
     μ-loop
     loop-holds
-    window-bucket-requires
+    (λ c κs. search needs)
     bucket-at-requires
     slot-with-key-requires
-    enum-known-slot
+    (λ c. search needs)
     returns
-    enum-told
+    (λ c. search needs)
     slot-with-key-requires-2
-    first-of-requires
+    (λ c κs. search needs)
     usable-from-requires
-    add-b
-    loop-less
+    (λ c. search needs)
+    (λ c. search needs)
     loop-again
-    first-of-requires-2
-    enum-known-taken
-    enum-told-2
+    (λ c κs. search needs)
+    (λ c. search needs)
+    (λ c. search needs)
     returns-2
     returns-3)

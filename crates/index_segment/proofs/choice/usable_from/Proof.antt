@@ -1,18 +1,8 @@
 -- `index_segment::choice::usable_from` meets its contract.
--- Assumes nothing.
 use borrow.Author.Needs.{needs}
 use mathlib.Core.Option.{orElse}
 use Rattle.index_segment.proofs.choice.usable_from.Statement.{statement}
 use Rattle.index_segment.proofs.choice.usable_from.Tie as tie
-
-enum-known-earlier : tie.Need-enum-known-earlier
-enum-known-earlier c = search needs
-
-enum-told : tie.Need-enum-told
-enum-told c = search needs
-
-usable-slot-requires : tie.Need-usable-slot-requires
-usable-slot-requires c κs = search needs
 
 returns : tie.Need-returns
 unfolding orElse
@@ -24,4 +14,4 @@ returns-2 c = λ a e. rw (c .before .enum-told .given .1) (c .usable-slot .ensur
 
 pub usable-from-spec : {M : Type 1} → statement M
 usable-from-spec =
-    tie.close (tie.spec enum-known-earlier enum-told usable-slot-requires returns returns-2)
+    tie.close (tie.spec (λ c. search needs) (λ c. search needs) (λ c κs. search needs) returns returns-2)

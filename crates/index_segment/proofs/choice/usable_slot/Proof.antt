@@ -1,5 +1,4 @@
 -- `index_segment::choice::usable_slot` meets its contract. The invariant: no slot so far is usable.
--- Assumes nothing.
 use Prim.Native.Nat.{ℕ, _-_, _≤_, _<_}
 use borrow.Author.Needs.{needs}
 use native.Mathlib.Omega.{arith}
@@ -24,24 +23,6 @@ abbrev μ-loop : tie.MeasureT-loop
 loop-holds : tie.Need-loop-holds Inv-loop μ-loop
 loop-holds c = (search needs, λ a e. no-slot-yet _ _)
 
-mul-is-live : tie.Need-mul-is-live Inv-loop μ-loop
-mul-is-live c = search needs
-
-mul-is-live-2 : tie.Need-mul-is-live-2 Inv-loop μ-loop
-mul-is-live-2 c = search needs
-
-element-copy-out-is-live : tie.Need-element-copy-out-is-live Inv-loop μ-loop
-element-copy-out-is-live c = search needs
-
-is-live-requires : tie.Need-is-live-requires Inv-loop μ-loop
-is-live-requires c κs = search needs
-
-mul-t13 : tie.Need-mul-t13 Inv-loop μ-loop
-mul-t13 c = search needs
-
-add-t14 : tie.Need-add-t14 Inv-loop μ-loop
-add-t14 c = search needs
-
 returns : tie.Need-returns Inv-loop μ-loop
 returns c =
     let u = c .before .before .before .before .before .args in
@@ -53,12 +34,6 @@ returns c =
     sym
     (slot-hit _ (u .number) j k (c .before .before .before .before .loop .inv .1 a e)
     (slot-usable a (u .t1 .words) (u .number) j 0 e k L (shared (u .block)) (test .result) (test .ensures) ∙ c .if1 .taken))
-
-add-j : tie.Need-add-j Inv-loop μ-loop
-add-j c = search needs
-
-loop-less : tie.Need-loop-less Inv-loop μ-loop
-loop-less c = search needs
 
 loop-again : tie.Need-loop-again Inv-loop μ-loop
 loop-again c =
@@ -86,14 +61,14 @@ usable-slot-spec =
     Inv-loop
     μ-loop
     loop-holds
-    mul-is-live
-    mul-is-live-2
-    element-copy-out-is-live
-    is-live-requires
-    mul-t13
-    add-t14
+    (λ c. search needs)
+    (λ c. search needs)
+    (λ c. search needs)
+    (λ c κs. search needs)
+    (λ c. search needs)
+    (λ c. search needs)
     returns
-    add-j
-    loop-less
+    (λ c. search needs)
+    (λ c. search needs)
     loop-again
     returns-2)

@@ -1,5 +1,4 @@
 -- `index_segment::copy::copy_slot` meets its contract.
--- Assumes nothing.
 use Prim.Native.Nat.{_+_, _*_}
 use borrow.Author.Needs.{needs}
 use mathlib.Core.Path.{sym, _∙_}
@@ -11,43 +10,20 @@ use Rattle.index_segment.proofs.Copies.{copy-moved, copy-cleared}
 use Rattle.index_segment.proofs.copy.copy_slot.Statement.{statement}
 use Rattle.index_segment.proofs.copy.copy_slot.Tie as tie
 
-mul-key-at : tie.Need-mul-key-at
-mul-key-at c = search needs
-
-add-value-at : tie.Need-add-value-at
-add-value-at c = search needs
-
-moves-requires : tie.Need-moves-requires
-moves-requires c κs = search needs
-
-store-word-requires : tie.Need-store-word-requires
-store-word-requires c κs = search needs
-
-store-word-requires-2 : tie.Need-store-word-requires-2
-store-word-requires-2 c κs = search needs
-
-same-length : tie.Need-same-length
-same-length c = search needs
-
 returns : tie.Need-returns
 returns c =
-    let u = c .before .before .before .before .before .before .before .before .before .before .before .args in
+    let at-moves = c .before .before .before .before .before .before .before .before .before in
+    let u = at-moves .before .before .args in
     let L = u .block .«local_depth» in
     let bits = shared (u .block) in
     let j = u .slot in
-    let test = c .before .before .before .before .before .before .before .before .before .moves in
+    let test = at-moves .moves in
     let first = c .before .before .before .before .before .before .store-word in
     let second = c .before .before .store-word2 in
     λ a h.
     rw (copy-moved a L bits j (u .held) h (sym (test .ensures a j (h .key-there)) ∙ c .before .before .before .before .before .before .before .before .if1 .taken))
     (executed-append (store (2 * j + 1) (u .held .value) ∷ []) (store (2 * j) (u .held .key) ∷ []) (u .allowance) (u .due) (u .new-segment .now)
     (first .result) (first .last .0) (second .result) (second .last .0) (first .ensures) (second .ensures))
-
-store-word-requires-3 : tie.Need-store-word-requires-3
-store-word-requires-3 c κs = search needs
-
-same-length-2 : tie.Need-same-length-2
-same-length-2 c = search needs
 
 returns-2 : tie.Need-returns-2
 returns-2 c =
@@ -63,13 +39,13 @@ pub copy-slot-spec : {M : Type 1} → statement M
 copy-slot-spec =
     tie.close
     (tie.spec
-    mul-key-at
-    add-value-at
-    moves-requires
-    store-word-requires
-    store-word-requires-2
-    same-length
+    (λ c. search needs)
+    (λ c. search needs)
+    (λ c κs. search needs)
+    (λ c κs. search needs)
+    (λ c κs. search needs)
+    (λ c. search needs)
     returns
-    store-word-requires-3
-    same-length-2
+    (λ c κs. search needs)
+    (λ c. search needs)
     returns-2)

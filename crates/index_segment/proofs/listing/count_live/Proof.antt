@@ -1,5 +1,4 @@
 -- `index_segment::listing::count_live` meets its contract. The invariant: the count is that of the slots so far.
--- Assumes nothing.
 use Prim.Native.Nat.{_-_, _≤_}
 use borrow.Author.Needs.{needs}
 use native.Mathlib.Omega.{arith}
@@ -24,29 +23,11 @@ abbrev μ-loop : tie.MeasureT-loop
 loop-holds : tie.Need-loop-holds Inv-loop μ-loop
 loop-holds c = (search needs, rw records-none)
 
-mul-is-live : tie.Need-mul-is-live Inv-loop μ-loop
-mul-is-live c = search needs
-
-mul-is-live-2 : tie.Need-mul-is-live-2 Inv-loop μ-loop
-mul-is-live-2 c = search needs
-
-shared-slice-read-is-live : tie.Need-shared-slice-read-is-live Inv-loop μ-loop
-shared-slice-read-is-live c = search needs
-
-is-live-requires : tie.Need-is-live-requires Inv-loop μ-loop
-is-live-requires c κs = search needs
-
 add-count : tie.Need-add-count Inv-loop μ-loop
 add-count c =
     let u = c .before .before .before .before .before .before .args in
     let here = c .before .before .before .before .loop in
     omega (arith, here .inv .1, count-small (u .segment .now) (u .block .«local_depth») (shared (u .block)) (here .slot))
-
-add-slot : tie.Need-add-slot Inv-loop μ-loop
-add-slot c = search needs
-
-loop-less : tie.Need-loop-less Inv-loop μ-loop
-loop-less c = search needs
 
 loop-again : tie.Need-loop-again Inv-loop μ-loop
 loop-again c =
@@ -76,12 +57,12 @@ count-live-spec =
     Inv-loop
     μ-loop
     loop-holds
-    mul-is-live
-    mul-is-live-2
-    shared-slice-read-is-live
-    is-live-requires
+    (λ c. search needs)
+    (λ c. search needs)
+    (λ c. search needs)
+    (λ c κs. search needs)
     add-count
-    add-slot
-    loop-less
+    (λ c. search needs)
+    (λ c. search needs)
     loop-again
     returns)

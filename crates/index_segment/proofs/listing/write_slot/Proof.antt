@@ -1,5 +1,4 @@
 -- `index_segment::listing::write_slot` meets its contract.
--- Assumes nothing.
 use Prim.Native.Nat.{_+_, _≤_}
 use borrow.Author.Needs.{needs}
 use native.Mathlib.Omega.{arith}
@@ -14,29 +13,8 @@ use Rattle.index_segment.proofs.listing.write_slot.Tie as tie
 room : (c : tie.Then1) → c .before .before .before .args .at + 2 ≤ length (c .before .before .before .args .list .now)
 room c = c .before .before .before .pre .1 (sym (c .before .is-live .ensures) ∙ c .if1 .taken)
 
-is-live-requires : tie.Need-is-live-requires
-is-live-requires c κs = search needs
-
-mul-list : tie.Need-mul-list
-mul-list c = omega (arith, room c)
-
-slice-write-list : tie.Need-slice-write-list
-slice-write-list c = omega (arith, room c)
-
-add-list : tie.Need-add-list
-add-list c = omega (arith, room c)
-
-mul-list-2 : tie.Need-mul-list-2
-mul-list-2 c = omega (arith, room c)
-
 slice-write-list-2 : tie.Need-slice-write-list-2
 slice-write-list-2 c = simp length-set (omega (arith, room c))
-
-add-result : tie.Need-add-result
-add-result c = omega (arith, room c)
-
-same-length : tie.Need-same-length
-same-length c = search needs
 
 returns : tie.Need-returns
 returns c =
@@ -56,13 +34,13 @@ pub write-slot-spec : {M : Type 1} → statement M
 write-slot-spec =
     tie.close
     (tie.spec
-    is-live-requires
-    mul-list
-    slice-write-list
-    add-list
-    mul-list-2
+    (λ c κs. search needs)
+    (λ c. omega (arith, room c))
+    (λ c. omega (arith, room c))
+    (λ c. omega (arith, room c))
+    (λ c. omega (arith, room c))
     slice-write-list-2
-    add-result
-    same-length
+    (λ c. omega (arith, room c))
+    (λ c. search needs)
     returns
     returns-2)

@@ -1,5 +1,4 @@
 -- `index_segment::live::is_live_by` meets its contract: the mask of L ones keeps the low L bits, and those give the index.
--- Assumes nothing.
 use Prim.Native.Nat.{ℕ, _*_, _-_, _%_, _^_, _≤_}
 use borrow.Author.Needs.{needs}
 use borrow.Author.Tests.{eq-eqb, ne-eqb}
@@ -17,12 +16,6 @@ shifted-one L h = shl-exact {a = 1} 1 L 64 (search needs) (omega arith) ∙ one-
 
 masked : (L n : ℕ) → L ≤ 12 → bitAnd n (1 * 2 ^ L % 18446744073709551616 - 1) ≡ n % 2 ^ L
 masked L n h = rw (shifted-one L h) (and-mask n L)
-
-cast-mask : tie.Need-cast-mask
-cast-mask c = search needs
-
-shl-mask : tie.Need-shl-mask
-shl-mask c = search needs
 
 sub-mask : tie.Need-sub-mask
 sub-mask c =
@@ -48,4 +41,4 @@ returns-2 c =
     rw (live-bits (a .block .«local_depth») (a .block .bits) (a .key), eq-eqb (a .key) 0 (c .if1 .left))
 
 pub is-live-by-spec : {M : Type 1} → statement M
-is-live-by-spec = tie.close (tie.spec cast-mask shl-mask sub-mask returns returns-2)
+is-live-by-spec = tie.close (tie.spec (λ c. search needs) (λ c. search needs) sub-mask returns returns-2)

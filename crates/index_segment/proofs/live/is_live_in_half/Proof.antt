@@ -1,5 +1,4 @@
 -- `index_segment::live::is_live_in_half` meets its contract.
--- Assumes nothing.
 use borrow.Author.Needs.{needs}
 use mathlib.Core.Path.{_≡_, refl, sym, _∙_}
 use mathlib.Core.Bool.{true, false}
@@ -9,17 +8,8 @@ use Rattle.index_layout.specs.Blocks.{shared}
 use Rattle.index_segment.proofs.live.is_live_in_half.Statement.{statement}
 use Rattle.index_segment.proofs.live.is_live_in_half.Tie as tie
 
-open-key-requires : tie.Need-open-key-requires
-open-key-requires c κs = search needs
-
 is-live-by-requires : tie.Need-is-live-by-requires
 is-live-by-requires c κs = (c .before .pre .0, c .open-key .ensures .1)
-
-cast-result : tie.Need-cast-result
-cast-result c = search needs
-
-shr-result : tie.Need-shr-result
-shr-result c = search needs
 
 returns : tie.Need-returns
 returns c =
@@ -43,4 +33,4 @@ returns-2 c =
     rw (live-split L (shared (a .block)) (a .half) (a .key) (start .pre .1), stale) (c .if1 .left)
 
 pub is-live-in-half-spec : {M : Type 1} → statement M
-is-live-in-half-spec = tie.close (tie.spec open-key-requires is-live-by-requires cast-result shr-result returns returns-2)
+is-live-in-half-spec = tie.close (tie.spec (λ c κs. search needs) is-live-by-requires (λ c. search needs) (λ c. search needs) returns returns-2)

@@ -1,5 +1,4 @@
 -- `index_segment::merge::both_keys_live` meets its contract.
--- Assumes nothing.
 use borrow.Author.Needs.{needs}
 use Prim.Native.Nat.{_*_}
 use native.Mathlib.Nat.{add-zero}
@@ -9,12 +8,6 @@ use Rattle.index_rules.specs.Merge.{liveLeft}
 use Rattle.index_layout.specs.Blocks.{shared}
 use Rattle.index_segment.proofs.merge.both_keys_live.Statement.{statement}
 use Rattle.index_segment.proofs.merge.both_keys_live.Tie as tie
-
-is-live-in-half-requires : tie.Need-is-live-in-half-requires
-is-live-in-half-requires c κs = search needs
-
-is-live-in-half-requires-2 : tie.Need-is-live-in-half-requires-2
-is-live-in-half-requires-2 c κs = search needs
 
 returns : tie.Need-returns
 returns c =
@@ -31,4 +24,4 @@ returns-2 c =
     rw first (c .if1 .left)
 
 pub both-keys-live-spec : {M : Type 1} → statement M
-both-keys-live-spec = tie.close (tie.spec is-live-in-half-requires is-live-in-half-requires-2 returns returns-2)
+both-keys-live-spec = tie.close (tie.spec (λ c κs. search needs) (λ c κs. search needs) returns returns-2)

@@ -1,5 +1,4 @@
 -- `index_segment::merge::merge_slot` meets its contract.
--- Assumes nothing.
 use Prim.Native.Nat.{_+_, _*_}
 use borrow.Author.Needs.{needs}
 use native.Mathlib.Nat.{add-zero}
@@ -14,32 +13,15 @@ use Rattle.index_segment.proofs.Merges.{merged-moved, merged-empty, mer
 use Rattle.index_segment.proofs.merge.merge_slot.Statement.{statement}
 use Rattle.index_segment.proofs.merge.merge_slot.Tie as tie
 
-mul-key-at : tie.Need-mul-key-at
-mul-key-at c = search needs
-
-is-live-in-half-requires : tie.Need-is-live-in-half-requires
-is-live-in-half-requires c κs = search needs
-
-add-value-at : tie.Need-add-value-at
-add-value-at c = search needs
-
-store-word-requires : tie.Need-store-word-requires
-store-word-requires c κs = search needs
-
-store-word-requires-2 : tie.Need-store-word-requires-2
-store-word-requires-2 c κs = search needs
-
-same-length : tie.Need-same-length
-same-length c = search needs
-
 returns : tie.Need-returns
 returns c =
-    let u = c .before .before .before .before .before .before .before .before .before .before .before .args in
+    let at-is-live-in-half = c .before .before .before .before .before .before .before .before .before in
+    let u = at-is-live-in-half .before .before .args in
     let M = u .joined .«local_depth» in
     let bits = shared (u .joined) in
     let j = u .slot in
     let s = u .sides in
-    let test = c .before .before .before .before .before .before .before .before .before .is-live-in-half in
+    let test = at-is-live-in-half .is-live-in-half in
     let moved : liveRight M bits (s .key) ≡ true = sym (test .ensures) ∙ c .before .before .before .before .before .before .before .before .if1 .taken in
     let first = c .before .before .before .before .before .before .store-word in
     let second = c .before .before .store-word2 in
@@ -55,9 +37,6 @@ returns-2 c =
     rw (merged-empty (u .joined .«local_depth») (shared (u .joined)) (u .slot) (s .«left_key») (s .key) (s .value) stays (c .if2 .taken))
     (executed-none (u .allowance) (u .due) (u .segment .now))
 
-is-live-in-half-requires-2 : tie.Need-is-live-in-half-requires-2
-is-live-in-half-requires-2 c κs = search needs
-
 returns-3 : tie.Need-returns-3
 returns-3 c =
     let u = c .before .before .before .before .before .before .args in
@@ -66,12 +45,6 @@ returns-3 c =
     let own = sym (rw (add-zero (2 * shared (u .joined))) at (c .before .is-live-in-half2 .ensures)) ∙ c .if3 .taken in
     rw (merged-own (u .joined .«local_depth») (shared (u .joined)) (u .slot) (s .«left_key») (s .key) (s .value) stays (c .before .before .if2 .left) own)
     (executed-none (u .allowance) (u .due) (u .segment .now))
-
-store-word-requires-3 : tie.Need-store-word-requires-3
-store-word-requires-3 c κs = search needs
-
-same-length-2 : tie.Need-same-length-2
-same-length-2 c = search needs
 
 returns-4 : tie.Need-returns-4
 returns-4 c =
@@ -92,16 +65,16 @@ pub merge-slot-spec : {M : Type 1} → statement M
 merge-slot-spec =
     tie.close
     (tie.spec
-    mul-key-at
-    is-live-in-half-requires
-    add-value-at
-    store-word-requires
-    store-word-requires-2
-    same-length
+    (λ c. search needs)
+    (λ c κs. search needs)
+    (λ c. search needs)
+    (λ c κs. search needs)
+    (λ c κs. search needs)
+    (λ c. search needs)
     returns
     returns-2
-    is-live-in-half-requires-2
+    (λ c κs. search needs)
     returns-3
-    store-word-requires-3
-    same-length-2
+    (λ c κs. search needs)
+    (λ c. search needs)
     returns-4)

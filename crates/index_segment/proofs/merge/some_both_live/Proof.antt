@@ -1,5 +1,4 @@
 -- `index_segment::merge::some_both_live` meets its contract. The invariant: no slot so far is live on both sides.
--- Assumes nothing.
 use Prim.Native.Nat.{_-_, _≤_}
 use borrow.Author.Needs.{needs}
 use native.Mathlib.Omega.{arith}
@@ -22,39 +21,12 @@ loop-holds c =
     let a = c .before .before .args in
     (omega arith, both-none (a .left .now) (a .right .now) (a .joined))
 
-mul-both-keys-live : tie.Need-mul-both-keys-live Inv-loop μ-loop
-mul-both-keys-live c = search needs
-
-mul-both-keys-live-2 : tie.Need-mul-both-keys-live-2 Inv-loop μ-loop
-mul-both-keys-live-2 c = search needs
-
-shared-slice-read-both-keys-live : tie.Need-shared-slice-read-both-keys-live Inv-loop μ-loop
-shared-slice-read-both-keys-live c = search needs
-
-mul-both-keys-live-3 : tie.Need-mul-both-keys-live-3 Inv-loop μ-loop
-mul-both-keys-live-3 c = search needs
-
-mul-both-keys-live-4 : tie.Need-mul-both-keys-live-4 Inv-loop μ-loop
-mul-both-keys-live-4 c = search needs
-
-shared-slice-read-both-keys-live-2 : tie.Need-shared-slice-read-both-keys-live-2 Inv-loop μ-loop
-shared-slice-read-both-keys-live-2 c = search needs
-
-both-keys-live-requires : tie.Need-both-keys-live-requires Inv-loop μ-loop
-both-keys-live-requires c κs = search needs
-
 returns : tie.Need-returns Inv-loop μ-loop
 returns c =
     let a = c .before .before .before .before .before .before .before .before .args in
     sym
     (both-found (a .left .now) (a .right .now) (a .joined) (c .before .before .before .before .before .loop .slot) (omega arith)
     (sym (c .before .both-keys-live .ensures) ∙ c .if1 .taken))
-
-add-slot : tie.Need-add-slot Inv-loop μ-loop
-add-slot c = search needs
-
-loop-less : tie.Need-loop-less Inv-loop μ-loop
-loop-less c = search needs
 
 loop-again : tie.Need-loop-again Inv-loop μ-loop
 loop-again c =
@@ -77,15 +49,15 @@ some-both-live-spec =
     Inv-loop
     μ-loop
     loop-holds
-    mul-both-keys-live
-    mul-both-keys-live-2
-    shared-slice-read-both-keys-live
-    mul-both-keys-live-3
-    mul-both-keys-live-4
-    shared-slice-read-both-keys-live-2
-    both-keys-live-requires
+    (λ c. search needs)
+    (λ c. search needs)
+    (λ c. search needs)
+    (λ c. search needs)
+    (λ c. search needs)
+    (λ c. search needs)
+    (λ c κs. search needs)
     returns
-    add-slot
-    loop-less
+    (λ c. search needs)
+    (λ c. search needs)
     loop-again
     returns-2)

@@ -1,6 +1,5 @@
 -- `index_segment::probe::find` meets its contract. The invariants: no slot of the buckets so far has the key, and none of the
 -- slots so far of the present bucket.
--- Assumes nothing.
 use Prim.Native.Nat.{_-_, _≤_, _<_}
 use borrow.Author.Needs.{needs}
 use native.Mathlib.Omega.{arith}
@@ -32,9 +31,6 @@ abbrev μ-search : tie.MeasureT-search
 search-holds : tie.Need-search-holds Inv-loop μ-loop Inv-search μ-search
 search-holds c = (search needs, refl, no-bucket-yet _ _)
 
-window-bucket-requires : tie.Need-window-bucket-requires Inv-loop μ-loop Inv-search μ-search
-window-bucket-requires c κs = search needs
-
 bucket-at-requires : tie.Need-bucket-at-requires Inv-loop μ-loop Inv-search μ-search
 bucket-at-requires c κs =
     (search needs, omega (arith, windowBucket-lt (c .before .before .before .before .args .key) (c .before .before .search .b)))
@@ -42,26 +38,11 @@ bucket-at-requires c κs =
 loop-holds : tie.Need-loop-holds Inv-loop μ-loop Inv-search μ-search
 loop-holds c = (search needs, c .before .before .before .search .inv .1, no-slot-yet _ _)
 
-mul-if1 : tie.Need-mul-if1 Inv-loop μ-loop Inv-search μ-search
-mul-if1 c = search needs
-
-mul-if1-2 : tie.Need-mul-if1-2 Inv-loop μ-loop Inv-search μ-search
-mul-if1-2 c = search needs
-
-element-copy-out-if1 : tie.Need-element-copy-out-if1 Inv-loop μ-loop Inv-search μ-search
-element-copy-out-if1 c = search needs
-
 mul-t16 : tie.Need-mul-t16 Inv-loop μ-loop Inv-search μ-search
 mul-t16 c = omega (arith, windowBucket-lt (c .before .before .before .before .before .before .before .before .before .args .key) (c .before .before .before .before .before .before .before .search .b))
 
 add-t17 : tie.Need-add-t17 Inv-loop μ-loop Inv-search μ-search
 add-t17 c = omega (arith, windowBucket-lt (c .before .before .before .before .before .before .before .before .before .args .key) (c .before .before .before .before .before .before .before .search .b))
-
-add-j : tie.Need-add-j Inv-loop μ-loop Inv-search μ-search
-add-j c = search needs
-
-loop-less : tie.Need-loop-less Inv-loop μ-loop Inv-search μ-search
-loop-less c = search needs
 
 loop-again : tie.Need-loop-again Inv-loop μ-loop Inv-search μ-search
 loop-again c =
@@ -72,12 +53,6 @@ loop-again c =
     let bucket = c .before .before .before .before .bucket-at in
     let missing = slot-has-not (a .segment .now) (bucket .result .words) number j (a .key) (bucket .ensures) k (c .if1 .left) in
     (search needs, c .before .before .before .loop .inv .1, slot-passed _ number j (c .before .before .before .loop .inv .2) missing)
-
-add-b : tie.Need-add-b Inv-loop μ-loop Inv-search μ-search
-add-b c = search needs
-
-search-less : tie.Need-search-less Inv-loop μ-loop Inv-search μ-search
-search-less c = search needs
 
 search-again : tie.Need-search-again Inv-loop μ-loop Inv-search μ-search
 search-again c =
@@ -120,19 +95,19 @@ find-spec =
     Inv-search
     μ-search
     search-holds
-    window-bucket-requires
+    (λ c κs. search needs)
     bucket-at-requires
     loop-holds
-    mul-if1
-    mul-if1-2
-    element-copy-out-if1
+    (λ c. search needs)
+    (λ c. search needs)
+    (λ c. search needs)
     mul-t16
     add-t17
-    add-j
-    loop-less
+    (λ c. search needs)
+    (λ c. search needs)
     loop-again
-    add-b
-    search-less
+    (λ c. search needs)
+    (λ c. search needs)
     search-again
     returns
     returns-2)

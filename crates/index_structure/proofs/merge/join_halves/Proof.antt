@@ -1,5 +1,4 @@
 -- `index_structure::merge::join_halves` meets its contract.
--- Assumes nothing.
 use borrow.Author.Needs.{needs}
 use native.Mathlib.Omega.{arith}
 use Rattle.index_structure.proofs.Merges.{pair-fits, mergeable, entries-ready, merge-made}
@@ -12,24 +11,27 @@ merging-of-requires c κs = pair-fits (c .before .pre)
 merge-slots-requires : tie.Need-merge-slots-requires
 merge-slots-requires c κs = rw (c .before .merging-of .ensures) (mergeable (c .before .before .before .pre))
 
-sub-t10 : tie.Need-sub-t10
-sub-t10 c = omega (arith, pair-fits (c .before .before .before .before .before .before .before .pre) .deep)
-
 join-entries-requires : tie.Need-join-entries-requires
 join-entries-requires c κs =
     let made = rw (c .before .before .before .before .before .before .merging-of .ensures) at (c .before .before .before .before .merge-slots .ensures) in
     entries-ready (c .before .before .before .before .before .before .before .before .pre) _ _ _ made
 
-same-length : tie.Need-same-length
-same-length c = search needs
-
 returns : tie.Need-returns
 returns c =
+    let at-merging-of = c .before .before .before .before .before .before .before .before .before in
     let made =
-    rw (c .before .before .before .before .before .before .before .before .before .merging-of .ensures) at
+    rw (at-merging-of .merging-of .ensures) at
     (c .before .before .before .before .before .before .before .merge-slots .ensures) in
-    merge-made (c .before .before .before .before .before .before .before .before .before .before .before .pre) _ _ _ _ _ made
+    merge-made (at-merging-of .before .before .pre) _ _ _ _ _ made
     (c .before .before .join-entries .ensures)
 
 pub join-halves-spec : {M : Type 1} → statement M
-join-halves-spec = tie.close (tie.spec merging-of-requires merge-slots-requires sub-t10 join-entries-requires same-length returns)
+join-halves-spec =
+    tie.close
+    (tie.spec
+    merging-of-requires
+    merge-slots-requires
+    (λ c. omega (arith, pair-fits (c .before .before .before .before .before .before .before .pre) .deep))
+    join-entries-requires
+    (λ c. search needs)
+    returns)

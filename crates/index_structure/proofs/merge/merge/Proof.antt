@@ -1,22 +1,9 @@
 -- `index_structure::merge::merge` meets its contract.
--- Assumes nothing.
 use borrow.Author.Needs.{needs}
 use mathlib.Core.Path.{refl, sym, _∙_}
 use Rattle.index_structure.proofs.Merges.{pair-fits, mergeable, both-are, paired-none, pair-ready}
 use Rattle.index_structure.proofs.merge.merge.Statement.{statement}
 use Rattle.index_structure.proofs.merge.merge.Tie as tie
-
-find-pair-requires : tie.Need-find-pair-requires
-find-pair-requires c κs = search needs
-
-enum-known-pair : tie.Need-enum-known-pair
-enum-known-pair c = search needs
-
-enum-told : tie.Need-enum-told
-enum-told c = search needs
-
-same-length : tie.Need-same-length
-same-length c = search needs
 
 returns : tie.Need-returns
 returns c = (paired-none _ _ _ (c .before .before .find-pair .ensures) (c .enum-told .given .1), refl)
@@ -32,9 +19,6 @@ both-live-requires c κs =
     rw (c .merging-of .ensures)
     (mergeable (pair-ready (pre .0) (pre .1) (c .before .before .before .before .before .find-pair .ensures) (c .before .before .before .pair .given .1)))
 
-same-length-2 : tie.Need-same-length-2
-same-length-2 c = search needs
-
 returns-2 : tie.Need-returns-2
 returns-2 c =
     let pre = c .before .before .before .before .before .before .before .before .before .before .pre in
@@ -48,15 +32,14 @@ join-halves-requires c κs =
     pair-ready (pre .0) (pre .1) (c .before .before .before .before .before .before .before .before .find-pair .ensures)
     (c .before .before .before .before .before .before .pair .given .1)
 
-same-length-3 : tie.Need-same-length-3
-same-length-3 c = search needs
-
 returns-3 : tie.Need-returns-3
 returns-3 c =
-    let pre = c .before .before .before .before .before .before .before .before .before .before .before .before .before .before .pre in
+    let at-pair = c .before .before .before .before .before .before .before .before .before in
+    let at-find-pair = at-pair .before .before in
+    let pre = at-find-pair .before .before .before .pre in
     let r =
-    pair-ready (pre .0) (pre .1) (c .before .before .before .before .before .before .before .before .before .before .before .find-pair .ensures)
-    (c .before .before .before .before .before .before .before .before .before .pair .given .1) in
+    pair-ready (pre .0) (pre .1) (at-find-pair .find-pair .ensures)
+    (at-pair .pair .given .1) in
     let both = rw (c .before .before .before .before .before .before .merging-of .ensures) at (c .before .before .before .before .before .both-live .ensures) in
     record {
       buddy = r .pair-at .buddy;
@@ -65,4 +48,4 @@ returns-3 c =
     }
 
 pub merge-spec : {M : Type 1} → statement M
-merge-spec = tie.close (tie.spec find-pair-requires enum-known-pair enum-told same-length returns merging-of-requires both-live-requires same-length-2 returns-2 join-halves-requires same-length-3 returns-3)
+merge-spec = tie.close (tie.spec (λ c κs. search needs) (λ c. search needs) (λ c. search needs) (λ c. search needs) returns merging-of-requires both-live-requires (λ c. search needs) returns-2 join-halves-requires (λ c. search needs) returns-3)

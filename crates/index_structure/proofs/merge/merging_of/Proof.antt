@@ -1,21 +1,17 @@
 -- `index_structure::merge::merging_of` meets its contract.
--- Assumes nothing.
 use borrow.Author.Needs.{needs}
 use native.Mathlib.Omega.{arith}
 use Rattle.index_structure.proofs.merge.merging_of.Statement.{statement}
 use Rattle.index_structure.proofs.merge.merging_of.Tie as tie
 
-segment-base-requires : tie.Need-segment-base-requires
-segment-base-requires c κs = search needs
-
-segment-base-requires-2 : tie.Need-segment-base-requires-2
-segment-base-requires-2 c κs = search needs
-
-sub-t7 : tie.Need-sub-t7
-sub-t7 c = omega (arith, c .before .before .before .pre .deep)
-
 returns : tie.Need-returns
 returns c = rw (c .before .before .segment-base .ensures, c .before .segment-base2 .ensures)
 
 pub merging-of-spec : {M : Type 1} → statement M
-merging-of-spec = tie.close (tie.spec segment-base-requires segment-base-requires-2 sub-t7 returns)
+merging-of-spec =
+    tie.close
+    (tie.spec
+    (λ c κs. search needs)
+    (λ c κs. search needs)
+    (λ c. omega (arith, c .before .before .before .pre .deep))
+    returns)

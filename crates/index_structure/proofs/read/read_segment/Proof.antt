@@ -1,5 +1,4 @@
 -- `index_structure::read::read_segment` meets its contract. The invariant: the words so far are the segment's.
--- Assumes nothing.
 use borrow.Author.Needs.{needs}
 use native.Mathlib.Omega.{arith}
 use mathlib.Core.Path.{_≡_}
@@ -15,30 +14,6 @@ Inv-loop words base segment₀ i₀ segment i =
 
 abbrev μ-loop : tie.MeasureT-loop
 μ-loop words base segment₀ i₀ segment i = 128 - i
-
-loop-holds : tie.Need-loop-holds Inv-loop μ-loop
-loop-holds c = search needs
-
-add-segment : tie.Need-add-segment Inv-loop μ-loop
-add-segment c = search needs
-
-mul-segment : tie.Need-mul-segment Inv-loop μ-loop
-mul-segment c = search needs
-
-shared-slice-read-segment : tie.Need-shared-slice-read-segment Inv-loop μ-loop
-shared-slice-read-segment c = search needs
-
-mul-segment-2 : tie.Need-mul-segment-2 Inv-loop μ-loop
-mul-segment-2 c = search needs
-
-array-write-segment : tie.Need-array-write-segment Inv-loop μ-loop
-array-write-segment c = search needs
-
-add-i : tie.Need-add-i Inv-loop μ-loop
-add-i c = search needs
-
-loop-less : tie.Need-loop-less Inv-loop μ-loop
-loop-less c = search needs
 
 loop-again : tie.Need-loop-again Inv-loop μ-loop
 loop-again c =
@@ -62,13 +37,13 @@ read-segment-spec =
     (tie.spec
     Inv-loop
     μ-loop
-    loop-holds
-    add-segment
-    mul-segment
-    shared-slice-read-segment
-    mul-segment-2
-    array-write-segment
-    add-i
-    loop-less
+    (λ c. search needs)
+    (λ c. search needs)
+    (λ c. search needs)
+    (λ c. search needs)
+    (λ c. search needs)
+    (λ c. search needs)
+    (λ c. search needs)
+    (λ c. search needs)
     loop-again
     returns)

@@ -1,25 +1,12 @@
 -- `index_structure::split::split` meets its contract.
--- Assumes nothing.
 use Rattle.index_structure.proofs.Splits.{no-segment, can-split, split-made}
 use native.Mathlib.Omega.{arith}
 use borrow.Author.Needs.{needs}
 use Rattle.index_structure.proofs.split.split.Statement.{statement}
 use Rattle.index_structure.proofs.split.split.Tie as tie
 
-returns : tie.Need-returns
-returns c = search needs
-
-free-segment-requires : tie.Need-free-segment-requires
-free-segment-requires c κs = search needs
-
-enum-known-new-segment : tie.Need-enum-known-new-segment
-enum-known-new-segment c = search needs
-
 enum-told : tie.Need-enum-told
 enum-told c = search needs
-
-same-length : tie.Need-same-length
-same-length c = search needs
 
 returns-2 : tie.Need-returns-2
 returns-2 c =
@@ -29,24 +16,22 @@ split-into-requires : tie.Need-split-into-requires
 split-into-requires c κs =
     can-split (c .before .before .before .before .before .before .before .before .before .before .before .pre) (λ e. omega (arith, c .before .before .before .before .before .before .if1 .left)) (c .before .before .before .before .free-segment .ensures) (c .before .before .new-segment .given .1)
 
-same-length-2 : tie.Need-same-length-2
-same-length-2 c = search needs
-
 returns-3 : tie.Need-returns-3
 returns-3 c =
-    split-made (c .before .before .before .before .before .before .before .before .before .before .before .before .before .before .pre) (λ e. omega (arith, c .before .before .before .before .before .before .before .before .before .if1 .left)) (c .before .before .before .before .before .before .before .free-segment .ensures) (c .before .before .before .before .before .new-segment .given .1)
+    let at-if1 = c .before .before .before .before .before .before .before .before .before in
+    split-made (at-if1 .before .before .before .before .before .pre) (λ e. omega (arith, at-if1 .if1 .left)) (c .before .before .before .before .before .before .before .free-segment .ensures) (c .before .before .before .before .before .new-segment .given .1)
     (c .before .before .split-into .ensures)
 
 pub split-spec : {M : Type 1} → statement M
 split-spec =
     tie.close
     (tie.spec
-    returns
-    free-segment-requires
-    enum-known-new-segment
+    (λ c. search needs)
+    (λ c κs. search needs)
+    (λ c. search needs)
     enum-told
-    same-length
+    (λ c. search needs)
     returns-2
     split-into-requires
-    same-length-2
+    (λ c. search needs)
     returns-3)

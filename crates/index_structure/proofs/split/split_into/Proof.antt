@@ -1,5 +1,4 @@
 -- `index_structure::split::split_into` meets its contract.
--- Assumes nothing.
 use native.Mathlib.Omega.{arith}
 use Rattle.stores.proofs.Loops.{executed-length}
 use Rattle.index_layout.proofs.Shapes.{bounds}
@@ -12,12 +11,6 @@ use Rattle.index_structure.proofs.split.split_into.Tie as tie
 read-segment-requires : tie.Need-read-segment-requires
 read-segment-requires c κs = place-bounds (c .before .before .before .pre .place) .whole
 
-double-requires : tie.Need-double-requires
-double-requires c κs = search needs
-
-add-t16 : tie.Need-add-t16
-add-t16 c = search needs
-
 halve-requires : tie.Need-halve-requires
 halve-requires c κs =
     let p = c .before .before .before .before .before .before .before .before .before .before .before .pre in
@@ -25,21 +18,16 @@ halve-requires c κs =
     let deep = c .before .before .before .before .before .if1 .taken in
     (halvable p _ _ (omega arith) (let r = p .local-room in omega arith) (executed-length d), omega (arith, doubling-due p deep _ _ _ _ d))
 
-same-length : tie.Need-same-length
-same-length c = search needs
-
 returns : tie.Need-returns
 returns c =
-    split-doubled (c .before .before .before .before .before .before .before .before .before .before .before .before .before .before .pre) (c .before .before .before .before .before .before .before .before .before .before .read-segment .ensures) (c .before .before .before .before .before .before .before .before .if1 .taken) _ _ _ _ _ (c .before .before .before .before .before .before .double .ensures) (c .before .before .halve .ensures)
+    let at-read-segment = c .before .before .before .before .before .before .before .before .before .before in
+    split-doubled (at-read-segment .before .before .before .before .pre) (at-read-segment .read-segment .ensures) (c .before .before .before .before .before .before .before .before .if1 .taken) _ _ _ _ _ (c .before .before .before .before .before .before .double .ensures) (c .before .before .halve .ensures)
 
 halve-requires-2 : tie.Need-halve-requires-2
 halve-requires-2 c κs =
     let p = c .before .before .before .before .before .before .before .pre in
     let q = place-bounds (p .place) in
     (halvable p _ _ (let r = q .local-low in omega (arith, c .before .if1 .left)) (bounds (p .place .header-read) .present) (search needs), omega arith)
-
-same-length-2 : tie.Need-same-length-2
-same-length-2 c = search needs
 
 returns-2 : tie.Need-returns-2
 returns-2 c =
@@ -50,11 +38,11 @@ split-into-spec =
     tie.close
     (tie.spec
     read-segment-requires
-    double-requires
-    add-t16
+    (λ c κs. search needs)
+    (λ c. search needs)
     halve-requires
-    same-length
+    (λ c. search needs)
     returns
     halve-requires-2
-    same-length-2
+    (λ c. search needs)
     returns-2)

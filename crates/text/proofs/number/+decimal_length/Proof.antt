@@ -1,5 +1,4 @@
 -- `text::number::decimal_length` meets its contract. The measure is the number itself.
--- Assumes nothing.
 use mathlib.Core.Path.{sym, _∙_, ap}
 use Prim.Native.Nat.{ℕ, _+_, _/_, _<_}
 use native.Mathlib.Omega.{arith}

@@ -1,5 +1,4 @@
 -- `text::number::read_number` meets its contract. The invariant: what is still to be read behind `value` is the field's number.
--- Assumes nothing.
 use mathlib.Core.Path.{_≡_, refl, sym, ap, _∙_}
 use Prim.Native.Nat.{suc, _-_, _≤_}
 use lib.ListN.{length, getD, drop}
@@ -32,30 +31,12 @@ loop-holds : tie.Need-loop-holds Inv-loop μ-loop
 loop-holds c =
     (search needs, refl, refl)
 
-shared-slice-read-with-digit : tie.Need-shared-slice-read-with-digit Inv-loop μ-loop
-shared-slice-read-with-digit c = search needs
-
-with-digit-requires : tie.Need-with-digit-requires Inv-loop μ-loop
-with-digit-requires c κs = search needs
-
-enum-known-next : tie.Need-enum-known-next Inv-loop μ-loop
-enum-known-next c = search needs
-
-enum-told : tie.Need-enum-told Inv-loop μ-loop
-enum-told c = search needs
-
 returns-3 : tie.Need-returns-3 Inv-loop μ-loop
 returns-3 c =
     let here = c .before .before .before .before .before .loop in
     let field = c .before .before .before .before .before .before .before .before .before .args .field .now in
     let stop = number-stops (here .value) (getD field (here .i) 0) (drop (suc (here .i)) field) (sym (c .before .before .with-digit .ensures) ∙ ap numberSaid (c .enum-told .given .1)) in
     sym (number-read field (search needs) (search needs) ∙ here .inv .2 ∙ rw (drop-cons field (here .i) 0 (search needs)) stop)
-
-add-i : tie.Need-add-i Inv-loop μ-loop
-add-i c = search needs
-
-loop-less : tie.Need-loop-less Inv-loop μ-loop
-loop-less c = search needs
 
 loop-again : tie.Need-loop-again Inv-loop μ-loop
 loop-again c =
@@ -81,12 +62,12 @@ read-number-spec =
     returns
     returns-2
     loop-holds
-    shared-slice-read-with-digit
-    with-digit-requires
-    enum-known-next
-    enum-told
+    (λ c. search needs)
+    (λ c κs. search needs)
+    (λ c. search needs)
+    (λ c. search needs)
     returns-3
-    add-i
-    loop-less
+    (λ c. search needs)
+    (λ c. search needs)
     loop-again
     returns-4)

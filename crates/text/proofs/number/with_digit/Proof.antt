@@ -1,5 +1,4 @@
 -- `text::number::with_digit` meets its contract.
--- Assumes nothing.
 use Prim.Native.Nat.{_+_, _-_, _*_, _^_}
 use borrow.Author.Tests.{lt-ltb, le-ltb, le-leb, lt-leb}
 use native.Mathlib.Omega.{arith}
@@ -18,22 +17,10 @@ unfolding withDigit isDigit
 returns-2 c =
     simp (le-leb _ _ (c .before .if1 .left), lt-leb _ _ (c .if2 .taken))
 
-cast-digit : tie.Need-cast-digit
-cast-digit c = search needs
-
-sub-if3 : tie.Need-sub-if3
-sub-if3 c = search needs
-
 returns-3 : tie.Need-returns-3
 unfolding withDigit isDigit
 returns-3 c =
     simp (le-leb _ _ (c .before .before .if1 .left), le-leb _ _ (c .before .if2 .left), le-ltb (10 * c .before .before .before .args .value + (c .before .before .before .args .byte - 48)) (2 ^ 64) (omega arith))
-
-mul-t6 : tie.Need-mul-t6
-mul-t6 c = search needs
-
-add-t7 : tie.Need-add-t7
-add-t7 c = search needs
 
 returns-4 : tie.Need-returns-4
 unfolding withDigit isDigit
@@ -42,4 +29,4 @@ returns-4 c =
 
 pub with-digit-spec : {M : Type 1} → statement M
 with-digit-spec =
-    tie.close (tie.spec returns returns-2 cast-digit sub-if3 returns-3 mul-t6 add-t7 returns-4)
+    tie.close (tie.spec returns returns-2 (λ c. search needs) (λ c. search needs) returns-3 (λ c. search needs) (λ c. search needs) returns-4)

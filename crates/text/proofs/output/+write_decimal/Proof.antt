@@ -1,5 +1,4 @@
 -- `text::output::write_decimal` meets its contract. The measure is the number itself.
--- Assumes nothing.
 use Prim.Native.Nat.{ℕ, _/_, _%_, _<_}
 use native.Mathlib.Omega.{arith}
 use borrow.Author.Needs.{needs}
@@ -38,9 +37,6 @@ learnt t = (write-short-reads.Asked, write-short-reads.Learnt, write-decimal-bel
 write-decimal-write-short-requires : (t : ℕ) → write-decimal-lts.Need-write-short-requires (learnt t) (write-decimal-at t) write-decimal.Post
 write-decimal-write-short-requires t c κs = (c .before .if1 .taken, c .before .before .before .pre .1)
 
-write-decimal-same-length : (t : ℕ) → write-decimal-lts.Need-same-length (learnt t) (write-decimal-at t) write-decimal.Post
-write-decimal-same-length t c = search needs
-
 write-decimal-returns : (t : ℕ) → write-decimal-lts.Need-returns (learnt t) (write-decimal-at t) write-decimal.Post
 write-decimal-returns t c = c .before .before .write-short .ensures
 
@@ -52,23 +48,21 @@ write-decimal-write-four-requires : (t : ℕ) → write-decimal-lts.Need-write-f
 write-decimal-write-four-requires t c κs =
     (omega arith, omega (arith, c .before .before .before .before .before .before .before .pre .1, length-four-more (c .before .before .before .before .before .before .before .args .n) (c .before .before .before .before .before .if1 .left) (search needs), c .before .before .before .write-decimal .ensures .behind))
 
-write-decimal-same-length-2 : (t : ℕ) → write-decimal-lts.Need-same-length-2 (learnt t) (write-decimal-at t) write-decimal.Post
-write-decimal-same-length-2 t c = search needs
-
 write-decimal-returns-2 : (t : ℕ) → write-decimal-lts.Need-returns-2 (learnt t) (write-decimal-at t) write-decimal.Post
 write-decimal-returns-2 t c =
-    let n = c .before .before .before .before .before .before .before .before .before .before .args .n in
+    let start = c .before .before .before .before .before .before .before .before .before .before in
+    let n = start .args .n in
     rw (decimal-four-more n (c .before .before .before .before .before .before .before .before .if1 .left) (search needs))
-    (written-append (decimal (n / 10000)) (fourDigits (n % 10000)) _ _ _ _ _ _ (omega (arith, c .before .before .before .before .before .before .before .before .before .before .pre .1)) (c .before .before .before .before .before .before .write-decimal .ensures) (c .before .before .write-four .ensures))
+    (written-append (decimal (n / 10000)) (fourDigits (n % 10000)) _ _ _ _ _ _ (omega (arith, start .pre .1)) (c .before .before .before .before .before .before .write-decimal .ensures) (c .before .before .write-four .ensures))
 
 pub +write-decimal-spec : {M : Type 1} → statement M
 +write-decimal-spec = close μ-write-decimal λ t. write-decimal-lts.spec (learnt t)
     (write-decimal-at t)
     write-decimal.Post
     (write-decimal-write-short-requires t)
-    (write-decimal-same-length t)
+    (λ c. search needs)
     (write-decimal-returns t)
     (write-decimal-write-decimal-requires t)
     (write-decimal-write-four-requires t)
-    (write-decimal-same-length-2 t)
+    (λ c. search needs)
     (write-decimal-returns-2 t)

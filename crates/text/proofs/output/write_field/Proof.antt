@@ -1,5 +1,4 @@
 -- `text::output::write_field` meets its contract.
--- Assumes nothing.
 use mathlib.Core.List.{[], _∷_}
 use native.Mathlib.Omega.{arith}
 use borrow.Author.Needs.{needs}
@@ -8,15 +7,9 @@ use Rattle.text.specs.Number.{decimal}
 use Rattle.text.proofs.output.write_field.Statement.{statement}
 use Rattle.text.proofs.output.write_field.Tie as tie
 
-write-byte-requires : tie.Need-write-byte-requires
-write-byte-requires c κs = search needs
-
 write-decimal-requires : tie.Need-write-decimal-requires
 write-decimal-requires c κs =
     omega (arith, c .before .before .before .before .before .before .pre, c .before .before .before .write-byte .ensures .behind)
-
-same-length : tie.Need-same-length
-same-length c = search needs
 
 returns : tie.Need-returns
 returns c =
@@ -24,4 +17,4 @@ returns c =
 
 pub write-field-spec : {M : Type 1} → statement M
 write-field-spec =
-    tie.close (tie.spec write-byte-requires write-decimal-requires same-length returns)
+    tie.close (tie.spec (λ c κs. search needs) write-decimal-requires (λ c. search needs) returns)

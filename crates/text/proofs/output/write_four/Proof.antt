@@ -1,5 +1,4 @@
 -- `text::output::write_four` meets its contract.
--- Assumes nothing.
 use Prim.Native.Nat.{_/_, _%_}
 use native.Mathlib.Omega.{arith}
 use borrow.Author.Needs.{needs}
@@ -14,12 +13,10 @@ write-two-requires c κs = (omega (arith, c .before .before .pre .0), omega (ari
 write-two-requires-2 : tie.Need-write-two-requires-2
 write-two-requires-2 c κs = (omega arith, omega (arith, c .before .before .before .before .before .before .pre .1, c .before .before .before .write-two .ensures .behind))
 
-same-length : tie.Need-same-length
-same-length c = search needs
-
 returns : tie.Need-returns
 returns c =
-    written-append (twoDigits (c .before .before .before .before .before .before .before .before .before .args .n / 100)) (twoDigits (c .before .before .before .before .before .before .before .before .before .args .n % 100)) _ _ _ _ _ _ (omega (arith, c .before .before .before .before .before .before .before .before .before .pre .1)) (c .before .before .before .before .before .before .write-two .ensures) (c .before .before .write-two2 .ensures)
+    let start = c .before .before .before .before .before .before .before .before .before in
+    written-append (twoDigits (start .args .n / 100)) (twoDigits (start .args .n % 100)) _ _ _ _ _ _ (omega (arith, start .pre .1)) (c .before .before .before .before .before .before .write-two .ensures) (c .before .before .write-two2 .ensures)
 
 pub write-four-spec : {M : Type 1} → statement M
-write-four-spec = tie.close (tie.spec write-two-requires write-two-requires-2 same-length returns)
+write-four-spec = tie.close (tie.spec write-two-requires write-two-requires-2 (λ c. search needs) returns)

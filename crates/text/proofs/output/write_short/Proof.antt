@@ -1,5 +1,4 @@
 -- `text::output::write_short` meets its contract.
--- Assumes nothing.
 use Prim.Native.Nat.{_%_}
 use mathlib.Core.List.{[], _∷_}
 use native.Mathlib.Omega.{arith}
@@ -10,17 +9,8 @@ use Rattle.text.proofs.Digits.{decimal-one, decimal-two, decimal-three,
 use Rattle.text.proofs.output.write_short.Statement.{statement}
 use Rattle.text.proofs.output.write_short.Tie as tie
 
-cast-write-byte : tie.Need-cast-write-byte
-cast-write-byte c = search needs
-
-add-write-byte : tie.Need-add-write-byte
-add-write-byte c = search needs
-
 write-byte-requires : tie.Need-write-byte-requires
 write-byte-requires c κs = omega (arith, c .before .before .before .pre .1, length-one-digit (c .before .before .before .args .n) (c .before .if1 .taken))
-
-same-length : tie.Need-same-length
-same-length c = search needs
 
 returns : tie.Need-returns
 returns c = rw (decimal-one (c .before .before .before .before .before .before .args .n) (c .before .before .before .before .if1 .taken)) (c .before .before .write-byte .ensures)
@@ -29,42 +19,30 @@ write-two-requires : tie.Need-write-two-requires
 write-two-requires c κs =
     (c .before .if2 .taken, omega (arith, c .before .before .before .before .pre .1, length-two-digits (c .before .before .before .before .args .n) (c .before .before .if1 .left) (c .before .if2 .taken)))
 
-same-length-2 : tie.Need-same-length-2
-same-length-2 c = search needs
-
 returns-2 : tie.Need-returns-2
 returns-2 c = rw (decimal-two (c .before .before .before .before .before .before .before .args .n) (c .before .before .before .before .before .if1 .left) (c .before .before .before .before .if2 .taken)) (c .before .before .write-two .ensures)
-
-cast-write-byte-2 : tie.Need-cast-write-byte-2
-cast-write-byte-2 c = search needs
-
-add-write-byte-2 : tie.Need-add-write-byte-2
-add-write-byte-2 c = search needs
 
 write-byte-requires-2 : tie.Need-write-byte-requires-2
 write-byte-requires-2 c κs =
     omega (arith, c .before .before .before .before .before .pre .1, length-three-digits (c .before .before .before .before .before .args .n) (c .before .before .if2 .left) (c .before .if3 .taken))
 
 write-two-requires-2 : tie.Need-write-two-requires-2
-write-two-requires-2 c κs = (
-  omega arith,
-  omega (arith, c .before .before .before .before .before .before .before .before .before .pre .1, length-three-digits (c .before .before .before .before .before .before .before .before .before .args .n) (c .before .before .before .before .before .before .if2 .left) (c .before .before .before .before .before .if3 .taken), c .before .before .before .write-byte2 .ensures .behind),
-)
-
-same-length-3 : tie.Need-same-length-3
-same-length-3 c = search needs
+write-two-requires-2 c κs =
+    let start = c .before .before .before .before .before .before .before .before .before in (
+      omega arith,
+      omega (arith, start .pre .1, length-three-digits (start .args .n) (c .before .before .before .before .before .before .if2 .left) (c .before .before .before .before .before .if3 .taken), c .before .before .before .write-byte2 .ensures .behind),
+    )
 
 returns-3 : tie.Need-returns-3
 returns-3 c =
-    rw (decimal-three (c .before .before .before .before .before .before .before .before .before .before .before .before .args .n) (c .before .before .before .before .before .before .before .before .before .if2 .left) (c .before .before .before .before .before .before .before .before .if3 .taken))
-    (written-append (_ ∷ []) (twoDigits (c .before .before .before .before .before .before .before .before .before .before .before .before .args .n % 100)) _ _ _ _ _ _ (omega (arith, c .before .before .before .before .before .before .before .before .before .before .before .before .pre .1)) (c .before .before .before .before .before .before .write-byte2 .ensures) (c .before .before .write-two2 .ensures))
+    let at-if2 = c .before .before .before .before .before .before .before .before .before in
+    let start = at-if2 .before .before .before in
+    rw (decimal-three (start .args .n) (at-if2 .if2 .left) (c .before .before .before .before .before .before .before .before .if3 .taken))
+    (written-append (_ ∷ []) (twoDigits (start .args .n % 100)) _ _ _ _ _ _ (omega (arith, start .pre .1)) (c .before .before .before .before .before .before .write-byte2 .ensures) (c .before .before .write-two2 .ensures))
 
 write-four-requires : tie.Need-write-four-requires
 write-four-requires c κs =
     (c .before .before .before .before .before .pre .0, omega (arith, c .before .before .before .before .before .pre .1, length-four-digits (c .before .before .before .before .before .args .n) (c .before .if3 .left) (c .before .before .before .before .before .pre .0)))
-
-same-length-4 : tie.Need-same-length-4
-same-length-4 c = search needs
 
 returns-4 : tie.Need-returns-4
 returns-4 c = rw (decimal-four (c .before .before .before .before .before .before .before .before .args .n) (c .before .before .before .before .if3 .left) (c .before .before .before .before .before .before .before .before .pre .0)) (c .before .before .write-four .ensures)
@@ -73,20 +51,20 @@ pub write-short-spec : {M : Type 1} → statement M
 write-short-spec =
     tie.close
     (tie.spec
-    cast-write-byte
-    add-write-byte
+    (λ c. search needs)
+    (λ c. search needs)
     write-byte-requires
-    same-length
+    (λ c. search needs)
     returns
     write-two-requires
-    same-length-2
+    (λ c. search needs)
     returns-2
-    cast-write-byte-2
-    add-write-byte-2
+    (λ c. search needs)
+    (λ c. search needs)
     write-byte-requires-2
     write-two-requires-2
-    same-length-3
+    (λ c. search needs)
     returns-3
     write-four-requires
-    same-length-4
+    (λ c. search needs)
     returns-4)

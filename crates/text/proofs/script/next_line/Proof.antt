@@ -1,5 +1,4 @@
 -- `text::script::next_line` meets its contract. The invariant: the lines from `from` on are those from `start` on.
--- Assumes nothing.
 use mathlib.Core.Path.{_≡_, refl, _∙_}
 use Prim.Native.Nat.{_-_, _≤_}
 use lib.ListN.{length, drop}
@@ -20,9 +19,6 @@ loop-holds : tie.Need-loop-holds Inv-loop μ-loop
 loop-holds c =
     (search needs, refl, refl)
 
-shared-slice-read-if1 : tie.Need-shared-slice-read-if1 Inv-loop μ-loop
-shared-slice-read-if1 c = search needs
-
 find-requires : tie.Need-find-requires Inv-loop μ-loop
 find-requires c κs =
     (search needs, search needs)
@@ -31,12 +27,6 @@ returns : tie.Need-returns Inv-loop μ-loop
 returns c =
     let here = c .before .before .before .before .loop in
     line-found _ _ _ _ (search needs) (search needs) (c .find .ensures .1) (c .find .ensures .0) (c .before .if1 .taken) (here .inv .2)
-
-add-start : tie.Need-add-start Inv-loop μ-loop
-add-start c = search needs
-
-loop-less : tie.Need-loop-less Inv-loop μ-loop
-loop-less c = search needs
 
 loop-again : tie.Need-loop-again Inv-loop μ-loop
 loop-again c =
@@ -55,10 +45,10 @@ next-line-spec =
     Inv-loop
     μ-loop
     loop-holds
-    shared-slice-read-if1
+    (λ c. search needs)
     find-requires
     returns
-    add-start
-    loop-less
+    (λ c. search needs)
+    (λ c. search needs)
     loop-again
     returns-2)
