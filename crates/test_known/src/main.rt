@@ -12,6 +12,9 @@ use reading::Row;
 use reading::take_in_line;
 use std::num::wrapping_add_u64;
 use test_array::array::words_before;
+use test_array::outcomes::DONE;
+use test_array::outcomes::Outcome;
+use test_array::outcomes::TOO_SHORT;
 use test_array::words::CELLS;
 use test_array::words::Cells;
 use test_array::words::set_word;
@@ -30,9 +33,6 @@ use test_compare::report::write_table;
 use test_compare::tally::begin_case;
 use test_compare::tally::expect;
 use test_model::Call;
-use test_model::DONE;
-use test_model::Outcome;
-use test_model::TOO_SHORT;
 
 // One byte more than the rows have at most.
 const TEXT_BYTES: usize = 16385;

@@ -5,6 +5,7 @@ use crate::generator::own_part;
 use std::num::wrapping_add_u32;
 use std::num::wrapping_add_usize;
 use test_array::array::power;
+use test_array::block_listing::block_records;
 use test_array::blocks::Block;
 use test_array::blocks::block_of;
 use test_array::route::unfolded;
@@ -14,7 +15,6 @@ use test_array::words::set_word;
 use test_array::words::word_at;
 use test_model::ALL_STORES;
 use test_model::Call;
-use test_model::block_listing::block_records;
 
 // The keys of a run. Each has an entry of three words in the table: the key, whether it has a value, and
 // the value.
