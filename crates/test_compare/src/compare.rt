@@ -157,16 +157,17 @@ pub fn make(words: &mut [u64], length: usize, call: Call) -> Outcome {
 }
 
 // Whether the call may be refused so, by document 01's table of refusals, and by document 02 for a merge and
-// a list of one block.
+// a list of one block. The columns rise in this order: format, get, put, remove, merge, mend, list, list of
+// one block.
 fn may_refuse(call: usize, refusal: u32) -> bool {
     match refusal {
         NO_STORE | BROKEN => call != FORMAT,
-        NO_KEY => call == GET || call == PUT || call == REMOVE || call == MERGE,
-        UNMENDED => call != FORMAT && call != GET && call != MEND,
+        NO_KEY => GET <= call && call <= MERGE,
+        UNMENDED => GET < call && call != MEND,
         TOO_DEEP | NO_SEGMENT => call == PUT,
-        CUT_OFF => call != GET && call != LIST && call != LIST_BLOCK,
+        CUT_OFF => call != GET && call < LIST,
         BAD_SHAPE | TOO_SHORT => call == FORMAT,
-        SHORT_LIST => call == LIST || call == LIST_BLOCK,
+        SHORT_LIST => LIST <= call,
         NO_BUDDY | BOTH_LIVE => call == MERGE,
         NO_LEADER => call == LIST_BLOCK,
         _ => false,
@@ -184,7 +185,7 @@ fn may_follow(following: Following) -> bool {
 // Whether the documents allow the call this reply.
 fn may_say(call: usize, reply: Reply) -> bool {
     match reply {
-        Reply::Done => call != GET && call != LIST && call != LIST_BLOCK,
+        Reply::Done => call != GET && call < LIST,
         Reply::Value(_) => call == GET || call == LIST,
         Reply::Listed(_, following) => call == LIST_BLOCK && may_follow(following),
         Reply::Absent => call == GET || call == REMOVE,
