@@ -21,7 +21,6 @@ use test_compare::arrays::Arrays;
 use test_compare::arrays::INDEX;
 use test_compare::arrays::MODEL;
 use test_compare::arrays::SAVED;
-use test_compare::arrays::TABLE;
 use test_compare::arrays::TALLY;
 use test_compare::compare::compare;
 use test_compare::compare::make;
@@ -94,18 +93,17 @@ fn below(roll: u64, bound: u32) -> u32 {
     (roll % UPPER_HALF) as u32 % bound
 }
 
-// What the arrays hold before the first run to be saved: random words, and a run of family 2 in them.
-fn leave_run(arrays: &mut Arrays) {
-    draw_keys(&mut arrays[TABLE], LEFT_SEED);
-    scatter(&mut arrays[SAVED], LEFT_SEED);
-    make(&mut arrays[SAVED], WORDS, Call::Format(6, 2, ALL_STORES));
+// What the array of the saved runs holds before the first: random words, and a run of family 2 with these
+// keys in them.
+fn leave_run(words: &mut Cells, keys: &Cells) {
+    scatter(words, LEFT_SEED);
+    make(words, WORDS, Call::Format(6, 2, ALL_STORES));
     let mut roll = from_seed(LEFT_SEED);
     for _ in 0..LEFT_STEPS {
         roll = next(roll);
-        let words = arrays[SAVED];
-        let call = call_for(&words, &arrays[TABLE], roll);
-        make(&mut arrays[SAVED], WORDS, call);
-        make(&mut arrays[SAVED], WORDS, Call::Mend(ALL_STORES));
+        let call = call_for(words, keys, roll);
+        make(words, WORDS, call);
+        make(words, WORDS, Call::Mend(ALL_STORES));
     }
 }
 
@@ -190,8 +188,9 @@ fn spoiled_entry(entry: u64, other: u64, shape: Shape, roll: u64) -> u64 {
 fn spoil_entry(words: &mut Cells, shape: Shape, roll: u64) {
     let count = power(shape.depth);
     let at = count as usize + below(roll / 8, count) as usize;
-    let other = word_at(words, count as usize + below(roll / 65536, count) as usize);
-    let entry = word_at(words, at);
+    let seen: &Cells = words;
+    let other = word_at(seen, count as usize + below(roll / 65536, count) as usize);
+    let entry = word_at(seen, at);
     set_word(words, at, spoiled_entry(entry, other, shape, roll));
 }
 
@@ -207,17 +206,19 @@ fn share_segment(words: &mut Cells, shape: Shape, roll: u64) {
 fn spoil_slot(words: &mut Cells, stray: u64, shape: Shape, roll: u64) {
     let base = words_before(shape.max_depth, below(roll / 8, shape.segments));
     let slot = (roll / 65536 % 64) as usize;
-    let near = (slot + (roll / 4194304 % 8) as usize) % 64;
-    let key = word_at(words, base + 2 * near);
-    let value = word_at(words, base + 2 * near + 1);
+    let near = base + 2 * ((slot + (roll / 4194304 % 8) as usize) % 64);
+    let seen: &Cells = words;
+    let key = word_at(seen, near);
+    let value = word_at(seen, near + 1);
     let spoiled = match roll % 4 {
         0 => stray,
         1 => key,
         2 => 0,
         _ => roll,
     };
-    set_word(words, base + 2 * slot, spoiled);
-    set_word(words, base + 2 * slot + 1, wrapping_add_u64(value, 1));
+    let at = base + 2 * slot;
+    set_word(words, at, spoiled);
+    set_word(words, at + 1, wrapping_add_u64(value, 1));
 }
 
 // Spoils one place of an array, or none.
@@ -343,7 +344,9 @@ fn setting_for(number: u64) -> Setting {
 
 // All saved runs and their damages.
 fn test_damage(arrays: &mut Arrays) {
-    leave_run(arrays);
+    let mut keys = [0u64; CELLS];
+    draw_keys(&mut keys, LEFT_SEED);
+    leave_run(&mut arrays[SAVED], &keys);
     for number in 0..BASES {
         damage_base(arrays, setting_for(number));
     }
