@@ -179,3 +179,21 @@ pub fn call_for(words: &Cells, table: &Cells, roll: u64) -> Call {
         _ => Call::Merge(key, (value % 8) as u32),
     }
 }
+
+// Whether a call that made this many stores is to be cut everywhere: a put that splits and one in eight
+// others, and every merge that makes stores.
+pub fn is_to_cut(call: Call, stores: u32) -> bool {
+    match call {
+        Call::Put(_, value, _) => 2 < stores || value % 8 == 0,
+        _ => 0 < stores,
+    }
+}
+
+// The allowance of the mends behind a call that was cut.
+pub fn mend_allowance(call: Call) -> u32 {
+    match call {
+        Call::Put(_, value, _) => (value % 2) as u32,
+        Call::Merge(_, allowance) => allowance % 2,
+        _ => 0,
+    }
+}
