@@ -6,8 +6,6 @@ use crate::arrays::INDEX;
 use crate::arrays::LISTED;
 use crate::arrays::MODEL;
 use crate::arrays::TALLY;
-use crate::lists::LIST_FILL;
-use crate::lists::is_list_of;
 use crate::tally::CALLS;
 use crate::tally::CUT_CALLS;
 use crate::tally::FORMAT;
@@ -27,29 +25,31 @@ use replies::Answer;
 use replies::Following;
 use replies::Reply;
 use replies::refusal_number;
+use test_array::block_listing::block_records;
+use test_array::listing::records;
+use test_array::lists::LIST_FILL;
+use test_array::lists::is_list_of;
+use test_array::outcomes::ABSENT;
+use test_array::outcomes::BAD_SHAPE;
+use test_array::outcomes::BOTH_LIVE;
+use test_array::outcomes::BROKEN;
+use test_array::outcomes::CUT_OFF;
+use test_array::outcomes::DONE;
+use test_array::outcomes::NO_BUDDY;
+use test_array::outcomes::NO_KEY;
+use test_array::outcomes::NO_LEADER;
+use test_array::outcomes::NO_SEGMENT;
+use test_array::outcomes::NO_STORE;
+use test_array::outcomes::Outcome;
+use test_array::outcomes::SHORT_LIST;
+use test_array::outcomes::TOO_DEEP;
+use test_array::outcomes::TOO_SHORT;
+use test_array::outcomes::UNMENDED;
 use test_array::words::CELLS;
 use test_array::words::Cells;
 use test_array::words::WORDS;
 use test_array::words::word_at;
-use test_model::ABSENT;
-use test_model::BAD_SHAPE;
-use test_model::BOTH_LIVE;
-use test_model::BROKEN;
-use test_model::CUT_OFF;
 use test_model::Call;
-use test_model::DONE;
-use test_model::NO_BUDDY;
-use test_model::NO_KEY;
-use test_model::NO_LEADER;
-use test_model::NO_SEGMENT;
-use test_model::NO_STORE;
-use test_model::Outcome;
-use test_model::SHORT_LIST;
-use test_model::TOO_DEEP;
-use test_model::TOO_SHORT;
-use test_model::UNMENDED;
-use test_model::block_listing::block_records;
-use test_model::listing::records;
 ghost use Prim.Native.Nat.{_≤_};
 
 // The column of a call.
@@ -157,16 +157,17 @@ pub fn make(words: &mut [u64], length: usize, call: Call) -> Outcome {
 }
 
 // Whether the call may be refused so, by document 01's table of refusals, and by document 02 for a merge and
-// a list of one block.
+// a list of one block. The columns rise in this order: format, get, put, remove, merge, mend, list, list of
+// one block.
 fn may_refuse(call: usize, refusal: u32) -> bool {
     match refusal {
         NO_STORE | BROKEN => call != FORMAT,
-        NO_KEY => call == GET || call == PUT || call == REMOVE || call == MERGE,
-        UNMENDED => call != FORMAT && call != GET && call != MEND,
+        NO_KEY => GET <= call && call <= MERGE,
+        UNMENDED => GET < call && call != MEND,
         TOO_DEEP | NO_SEGMENT => call == PUT,
-        CUT_OFF => call != GET && call != LIST && call != LIST_BLOCK,
+        CUT_OFF => call != GET && call < LIST,
         BAD_SHAPE | TOO_SHORT => call == FORMAT,
-        SHORT_LIST => call == LIST || call == LIST_BLOCK,
+        SHORT_LIST => LIST <= call,
         NO_BUDDY | BOTH_LIVE => call == MERGE,
         NO_LEADER => call == LIST_BLOCK,
         _ => false,
@@ -184,7 +185,7 @@ fn may_follow(following: Following) -> bool {
 // Whether the documents allow the call this reply.
 fn may_say(call: usize, reply: Reply) -> bool {
     match reply {
-        Reply::Done => call != GET && call != LIST && call != LIST_BLOCK,
+        Reply::Done => call != GET && call < LIST,
         Reply::Value(_) => call == GET || call == LIST,
         Reply::Listed(_, following) => call == LIST_BLOCK && may_follow(following),
         Reply::Absent => call == GET || call == REMOVE,

@@ -2,6 +2,5 @@
 // counted; and the table of what was counted.
 pub mod arrays;
 pub mod compare;
-pub mod lists;
 pub mod report;
 pub mod tally;

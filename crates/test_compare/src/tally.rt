@@ -4,11 +4,11 @@
 use crate::arrays::Arrays;
 use crate::arrays::TALLY;
 use std::num::wrapping_add_u64;
-use test_model::ABSENT;
-use test_model::BOTH_LIVE;
-use test_model::NO_BUDDY;
-use test_model::NO_LEADER;
-use test_model::SHORT_LIST;
+use test_array::outcomes::ABSENT;
+use test_array::outcomes::BOTH_LIVE;
+use test_array::outcomes::NO_BUDDY;
+use test_array::outcomes::NO_LEADER;
+use test_array::outcomes::SHORT_LIST;
 
 // The places of a line: one for each call in the lines of replies, of which line 0 uses the first six.
 pub(crate) const COLUMNS: usize = 8;

@@ -12,6 +12,9 @@ use reading::Row;
 use reading::take_in_line;
 use std::num::wrapping_add_u64;
 use test_array::array::words_before;
+use test_array::outcomes::DONE;
+use test_array::outcomes::Outcome;
+use test_array::outcomes::TOO_SHORT;
 use test_array::words::CELLS;
 use test_array::words::Cells;
 use test_array::words::set_word;
@@ -30,9 +33,6 @@ use test_compare::report::write_table;
 use test_compare::tally::begin_case;
 use test_compare::tally::expect;
 use test_model::Call;
-use test_model::DONE;
-use test_model::Outcome;
-use test_model::TOO_SHORT;
 
 // One byte more than the rows have at most.
 const TEXT_BYTES: usize = 16385;
@@ -176,18 +176,9 @@ fn call_of(letter: u8, first: u64, second: u64, third: u64) -> Call {
     }
 }
 
-// Compares what stands in the arrays. A letter that is for nothing is a difference; 0 is that of a comment.
-fn look_at(arrays: &mut Arrays, letter: u8, first: u64, second: u64, third: u64) {
-    match letter {
-        b'w' => expect_word(arrays, first as usize, second),
-        b'r' => expect_record(arrays, first as usize, second, third),
-        b't' => expect_filled(arrays, first as usize, second, third),
-        _ => expect(arrays, letter == 0),
-    }
-}
-
-// Begins a case, or changes the arrays.
-fn set_up(arrays: &mut Arrays, letter: u8, first: u64, second: u64, third: u64) {
+// Begins a case, changes the arrays, or compares what stands in them. A letter that is for nothing is a
+// difference; 0 is that of a comment.
+fn take_other(arrays: &mut Arrays, letter: u8, first: u64, second: u64, third: u64) {
     match letter {
         b'c' => begin(arrays, first as usize),
         b'f' => fill(arrays, half_of(first), second, third),
@@ -195,7 +186,10 @@ fn set_up(arrays: &mut Arrays, letter: u8, first: u64, second: u64, third: u64) 
         b'i' => set_both(arrays, first as usize, second),
         b's' => arrays[SAVED] = arrays[INDEX],
         b'u' => arrays[MODEL] = arrays[SAVED],
-        _ => look_at(arrays, letter, first, second, third),
+        b'w' => expect_word(arrays, first as usize, second),
+        b'r' => expect_record(arrays, first as usize, second, third),
+        b't' => expect_filled(arrays, first as usize, second, third),
+        _ => expect(arrays, letter == 0),
     }
 }
 
@@ -205,16 +199,18 @@ fn take_row(arrays: &mut Arrays, row: &Row) {
     let first = row[1];
     let second = row[2];
     let third = row[3];
+    let due = row[DUE];
+    let next_due = row[DUE + 1];
     match letter {
         b'A'..=b'Z' => {
             let call = call_of(letter, first, second, third);
-            expect_call(arrays, call, half_of(row[DUE]), half_of(row[DUE + 1]));
+            expect_call(arrays, call, half_of(due), half_of(next_due));
         }
-        b'b' => list_block(arrays, first, second as usize, row[DUE], row[DUE + 1]),
+        b'b' => list_block(arrays, first, second as usize, due, next_due),
         b'p' => {
             compare(arrays, call_of(b'P', first, second, third));
         }
-        _ => set_up(arrays, letter, first, second, third),
+        _ => take_other(arrays, letter, first, second, third),
     }
 }
 

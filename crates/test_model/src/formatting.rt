@@ -1,14 +1,14 @@
 // The plan of a format.
-use crate::BAD_SHAPE;
-use crate::DONE;
-use crate::TOO_SHORT;
-use crate::draft::note;
 use test_array::array::SLOTS;
 use test_array::array::Shape;
 use test_array::array::first_word;
 use test_array::array::key_address;
 use test_array::array::shape_from;
 use test_array::array::words_before;
+use test_array::draft::note;
+use test_array::outcomes::BAD_SHAPE;
+use test_array::outcomes::DONE;
+use test_array::outcomes::TOO_SHORT;
 use test_array::words::Cells;
 
 // The stores of a format, in document 01's order: word 0 and the entry of depth 0 become 0, the keys of
@@ -26,11 +26,11 @@ fn note_empty(draft: &mut Cells, shape: Shape) {
 pub(crate) fn plan_format(draft: &mut Cells, length: usize, max_depth: u64, segments: u64) -> u32 {
     let shape = shape_from(0, max_depth, segments);
     if !shape.sound {
-        return BAD_SHAPE;
+        BAD_SHAPE
+    } else if length < words_before(shape.max_depth, shape.segments) {
+        TOO_SHORT
+    } else {
+        note_empty(draft, shape);
+        DONE
     }
-    if length < words_before(shape.max_depth, shape.segments) {
-        return TOO_SHORT;
-    }
-    note_empty(draft, shape);
-    DONE
 }

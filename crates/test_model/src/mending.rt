@@ -1,14 +1,14 @@
 // The plan of a mend.
-use crate::BROKEN;
-use crate::DONE;
-use crate::NO_STORE;
-use crate::draft::note;
-use crate::scan::leading_entry;
-use crate::scan::mark_blocks;
 use test_array::array::entry_address;
 use test_array::array::entry_at;
 use test_array::array::power;
 use test_array::array::shape_of;
+use test_array::draft::note;
+use test_array::outcomes::BROKEN;
+use test_array::outcomes::DONE;
+use test_array::outcomes::NO_STORE;
+use test_array::scan::leading_entry;
+use test_array::scan::mark_blocks;
 use test_array::words::CELLS;
 use test_array::words::Cells;
 
@@ -17,8 +17,9 @@ use test_array::words::Cells;
 fn mend_entries(draft: &mut Cells, marks: &Cells, depth: u32) {
     let count = power(depth);
     for index in 0..count {
-        let leading = leading_entry(draft, marks, index);
-        if entry_at(draft, depth, index) != leading {
+        let words: &Cells = draft;
+        let leading = leading_entry(words, marks, index);
+        if entry_at(words, depth, index) != leading {
             note(draft, entry_address(depth, index), leading);
         }
     }
@@ -26,12 +27,13 @@ fn mend_entries(draft: &mut Cells, marks: &Cells, depth: u32) {
 
 // Plans a mend, if each leader is sound.
 pub(crate) fn plan_mend(draft: &mut Cells, length: usize) -> u32 {
-    let shape = shape_of(draft, length);
+    let words: &Cells = draft;
+    let shape = shape_of(words, length);
     if !shape.sound {
         return NO_STORE;
     }
     let mut marks = [0u64; CELLS];
-    if !mark_blocks(draft, shape, &mut marks) {
+    if !mark_blocks(words, shape, &mut marks) {
         return BROKEN;
     }
     mend_entries(draft, &marks, shape.depth);

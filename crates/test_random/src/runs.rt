@@ -5,6 +5,7 @@ use crate::generator::own_part;
 use std::num::wrapping_add_u32;
 use std::num::wrapping_add_usize;
 use test_array::array::power;
+use test_array::block_listing::block_records;
 use test_array::blocks::Block;
 use test_array::blocks::block_of;
 use test_array::route::unfolded;
@@ -14,7 +15,6 @@ use test_array::words::set_word;
 use test_array::words::word_at;
 use test_model::ALL_STORES;
 use test_model::Call;
-use test_model::block_listing::block_records;
 
 // The keys of a run. Each has an entry of three words in the table: the key, whether it has a value, and
 // the value.
@@ -177,5 +177,23 @@ pub fn call_for(words: &Cells, table: &Cells, roll: u64) -> Call {
         13 => refused_format(value),
         14 => Call::Put(key, value, (value % 128) as u32),
         _ => Call::Merge(key, (value % 8) as u32),
+    }
+}
+
+// Whether a call that made this many stores is to be cut everywhere: a put that splits and one in eight
+// others, and every merge that makes stores.
+pub fn is_to_cut(call: Call, stores: u32) -> bool {
+    match call {
+        Call::Put(_, value, _) => 2 < stores || value % 8 == 0,
+        _ => 0 < stores,
+    }
+}
+
+// The allowance of the mends behind a call that was cut.
+pub fn mend_allowance(call: Call) -> u32 {
+    match call {
+        Call::Put(_, value, _) => (value % 2) as u32,
+        Call::Merge(_, allowance) => allowance % 2,
+        _ => 0,
     }
 }

@@ -9,9 +9,9 @@ mod table;
 
 use parts::compare_parts;
 use table::look_up_all;
-use table::tell;
-use test_array::array::power;
 use test_array::array::words_before;
+use test_array::outcomes::CUT_OFF;
+use test_array::outcomes::DONE;
 use test_array::words::CELLS;
 use test_array::words::word_at;
 use test_compare::arrays::ARRAYS;
@@ -25,9 +25,7 @@ use test_compare::compare::compare;
 use test_compare::report::write_table;
 use test_compare::tally::begin_case;
 use test_model::ALL_STORES;
-use test_model::CUT_OFF;
 use test_model::Call;
-use test_model::DONE;
 use test_model::with_allowance;
 use test_random::generator::from_seed;
 use test_random::generator::next;
@@ -37,42 +35,16 @@ use test_random::runs::KEYS;
 use test_random::runs::call_for;
 use test_random::runs::draw_keys;
 use test_random::runs::entry_for;
+use test_random::runs::is_to_cut;
+use test_random::runs::mend_allowance;
+use test_random::settings::Setting;
+use test_random::settings::setting_for;
+use test_random::table::tell;
 
-// The runs, those at each depth, and the steps of a run.
+// The runs, and the steps of a run.
 const RUNS: u32 = 160;
 
-const RUNS_PER_DEPTH: u32 = 32;
-
 const STEPS: u32 = 160;
-
-// A run: its largest depth and segments, and its first random number.
-struct Setting {
-    max_depth: u32,
-    segments: u32,
-    seed: u64,
-}
-
-// The segments of a run: all that its depth allows, three quarters, half, or a few.
-fn segments_for(max_depth: u32, run: u32) -> u32 {
-    let most = power(max_depth);
-    match run / 4 % 4 {
-        0 => most,
-        1 => most - most / 4,
-        2 => most / 2,
-        _ => 1 + run % 3,
-    }
-}
-
-// What a run is given, by its number: the depths rise from 2.
-fn setting_for(number: u32) -> Setting {
-    let max_depth = 2 + number / RUNS_PER_DEPTH;
-    let run = number % RUNS_PER_DEPTH;
-    Setting {
-        max_depth,
-        segments: segments_for(max_depth, run),
-        seed: max_depth as u64 * 64 + run as u64,
-    }
-}
 
 // A lookup of every key, where a mend may be awaited, and a mend; whether it was cut off.
 fn mend_is_cut(arrays: &mut Arrays, allowance: u32) -> bool {
@@ -123,15 +95,6 @@ fn cut_everywhere(arrays: &mut Arrays, call: Call, stores: u32) {
     compare(arrays, call);
 }
 
-// Whether a call that made this many stores is to be cut everywhere: a put that splits and one in eight
-// others, and every merge that makes stores.
-fn is_to_cut(call: Call, stores: u32) -> bool {
-    match call {
-        Call::Put(_, value, _) => 2 < stores || value % 8 == 0,
-        _ => 0 < stores,
-    }
-}
-
 // A put or a merge that all its stores are allowed, cut everywhere first if it is to be.
 fn whole_step(arrays: &mut Arrays, entry: usize, call: Call) {
     arrays[SAVED] = arrays[INDEX];
@@ -141,15 +104,6 @@ fn whole_step(arrays: &mut Arrays, entry: usize, call: Call) {
     }
     if whole.reply == DONE {
         tell(&mut arrays[TABLE], entry, call);
-    }
-}
-
-// The allowance of the mends behind a call that was cut.
-fn mend_allowance(call: Call) -> u32 {
-    match call {
-        Call::Put(_, value, _) => (value % 2) as u32,
-        Call::Merge(_, allowance) => allowance % 2,
-        _ => 0,
     }
 }
 

@@ -1,5 +1,7 @@
 // The listing in parts: lists of one block with 128 words each, joined from index 0 on, are the full listing
 // (document 02, wish 7).
+use test_array::lists::is_list_of;
+use test_array::outcomes::DONE;
 use test_array::words::CELLS;
 use test_array::words::Cells;
 use test_array::words::WORDS;
@@ -8,10 +10,8 @@ use test_array::words::word_at;
 use test_compare::arrays::Arrays;
 use test_compare::arrays::LISTED;
 use test_compare::compare::compare;
-use test_compare::lists::is_list_of;
 use test_compare::tally::expect;
 use test_model::Call;
-use test_model::DONE;
 use test_random::runs::PART_WORDS;
 
 // The most blocks of a run, at depth 6.

@@ -1,8 +1,5 @@
-// The plain table of document 01, in an array of its own, with an entry for each key that the run uses.
-// It is told what was done and never sees the index's array.
+// The lookups of every key in the index, beside the plain table.
 use replies::Reply;
-use test_array::words::Cells;
-use test_array::words::set_word;
 use test_array::words::word_at;
 use test_compare::arrays::Arrays;
 use test_compare::arrays::INDEX;
@@ -10,23 +7,8 @@ use test_compare::arrays::TABLE;
 use test_compare::tally::LOOKUPS;
 use test_compare::tally::count;
 use test_compare::tally::expect;
-use test_model::Call;
 use test_random::runs::ENTRY_WORDS;
 use test_random::runs::KEYS;
-
-// Tells the table of a done call on the key of an entry: a put sets its value, whether it had one or not,
-// a remove takes it away, any other call leaves it.
-pub(crate) fn tell(table: &mut Cells, entry: usize, call: Call) {
-    let at = entry % (ENTRY_WORDS * KEYS);
-    match call {
-        Call::Put(_, value, _) => {
-            set_word(table, at + 1, 1);
-            set_word(table, at + 2, value);
-        }
-        Call::Remove(_, _) => set_word(table, at + 1, 0),
-        _ => {}
-    }
-}
 
 // Whether a lookup in the index says what the table says of a key.
 fn is_as_told(arrays: &Arrays, number: u32) -> bool {

@@ -7,6 +7,8 @@
 use std::num::wrapping_add_u32;
 use std::num::wrapping_add_u64;
 use test_array::array::power;
+use test_array::outcomes::DONE;
+use test_array::outcomes::SHORT_LIST;
 use test_array::route::unfolded;
 use test_array::words::CELLS;
 use test_compare::arrays::ARRAYS;
@@ -21,8 +23,6 @@ use test_compare::tally::begin_case;
 use test_compare::tally::expect;
 use test_model::ALL_STORES;
 use test_model::Call;
-use test_model::DONE;
-use test_model::SHORT_LIST;
 use test_model::with_allowance;
 
 // The words for D = 12, S = 13.

@@ -7,11 +7,13 @@ pub double-spec : {M : Type 1} → statement M
 double-spec =
     tie.close
     (tie.spec
-    (λ draft₀ depth count index₀ draft index. 0 ≤ index)
-    (λ draft₀ depth count index₀ draft index. count - index)
+    (λ draft₀ depth deeper count index₀ draft index. 0 ≤ index)
+    (λ draft₀ depth deeper count index₀ draft index. count - index)
     (λ c κs. search needs)
     (λ c κs. search needs)
     (λ c. search needs)
+    (λ c κs. search needs)
+    (λ c κs. search needs)
     (λ c κs. search needs)
     (λ c. search needs)
     (λ c. search needs)

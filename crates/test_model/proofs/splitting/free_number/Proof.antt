@@ -1,6 +1,5 @@
 use borrow.Author.Needs.{needs}
 use Prim.Native.Nat.{_-_, _≤_}
-use lib.ListN.{length}
 use Rattle.test_model.proofs.splitting.free_number.Statement.{statement}
 use Rattle.test_model.proofs.splitting.free_number.Tie as tie
 
