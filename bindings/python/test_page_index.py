@@ -197,7 +197,7 @@ class Documents(unittest.TestCase):
         report.call("read, month 13", month_board.read, Job(2026, 13, 4096))
         report.call("remove, number 4096", month_board.remove, Job(2026, 12, 4096))
         report.call("print into 8 bytes", print_short, 2026)
-        self.assertEqual(report.text, (C_BINDINGS / "example_board.out").read_text())
+        self.assertEqual(report.text, (C_BINDINGS / "board_example.out").read_text())
 
     def test_the_examples_of_the_modules(self):
         for module in (page_index, month_board):
