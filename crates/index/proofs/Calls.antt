@@ -11,16 +11,15 @@ use lib.ListN.{length}
 use Rattle.stores.specs.Lists.{pick}
 use Rattle.stores.specs.Store.{store, word}
 use Rattle.stores.specs.Executed.{Executed}
-use Rattle.stores.proofs.Stores.{executed-append}
 use Rattle.replies.specs.declared.Refusal.{Refusal}
 use Rattle.replies.specs.declared.Refusal.the-variants.{NoStore, Broken, BadShape, TooShort}
 use Rattle.replies.specs.declared.Answer.{Answer}
 use Rattle.index_rules.specs.declared.Call.the-variants.{Format, Get, Remove, Mend}
-use Rattle.index_rules.specs.Layout.{validShape, validHeader, wordsFor, header, depth, segments, segmentAddress, keyAddress, valueAddress}
+use Rattle.index_rules.specs.Layout.{validShape, validHeader, wordsFor, depth, segments, keyAddress, valueAddress}
 use Rattle.index_rules.specs.Scan.{leadersValid}
 use Rattle.index_rules.specs.Slots.{hit}
 use Rattle.replies.specs.Replies.{Said, done, absent, refused, refuse, saidBy, unless, tested, replied}
-use Rattle.index_rules.specs.Format.{clearing, formatTests, formatStores, format}
+use Rattle.index_rules.specs.Format.{formatTests, formatStores, format}
 use Rattle.index_rules.specs.Get.{getTests, valueAtHit, get}
 use Rattle.index_rules.specs.Put.{directoryTests, putTests}
 use Rattle.index_rules.specs.Remove.{removeTests, clearedAt, remove}
@@ -44,21 +43,6 @@ abbrev pub Without : (r : Answer) (reply : Said) → Type 0
 Without r reply = (saidBy (r .reply) ≡ reply) × (r .stores ≡ 0)
 
 -- ---- Format
-
--- The stores of a format, one phase behind the other.
-pub format-stores : (D S allowance : ℕ) (a : List ℕ) (n₁ : ℕ) (a₁ : List ℕ) (n₂ : ℕ) (a₂ : List ℕ) (base n₃ : ℕ) (a₃ : List ℕ) (w n₄ : ℕ) (a₄ : List ℕ)
-    → base ≡ segmentAddress D 0 → w ≡ header 0 D S
-    → Executed (store 0 0 ∷ []) allowance 0 a n₁ a₁
-    → Executed (store 1 0 ∷ []) allowance n₁ a₁ n₂ a₂
-    → Executed (clearing base) allowance n₂ a₂ n₃ a₃
-    → Executed (store 0 w ∷ []) allowance n₃ a₃ n₄ a₄
-    → Executed (formatStores D S) allowance 0 a n₄ a₄
-unfolding formatStores
-format-stores D S allowance a n₁ a₁ n₂ a₂ base n₃ a₃ w n₄ a₄ b v e₁ e₂ e₃ e₄ =
-    executed-append (store 0 0 ∷ []) _ allowance 0 a n₁ a₁ n₄ a₄ e₁
-    (executed-append (store 1 0 ∷ []) _ allowance n₁ a₁ n₂ a₂ n₄ a₄ e₂
-    (executed-append (clearing (segmentAddress D 0)) (store 0 (header 0 D S) ∷ []) allowance n₂ a₂ n₃ a₃ n₄ a₄
-    (rw b at e₃) (rw v at e₄)))
 
 module _ (a : List ℕ) (D S allowance : ℕ) (r : Answer) where
   pub format-bad-shape : validShape D S ≡ false → Without r (refused 8) → Answered (outcomeOf a (Format D S allowance)) r a

@@ -1,13 +1,11 @@
 // The calls of document 01: format, get, put, remove, mend, list; and document 02's merge and list of one
 // block. Every array, also the empty one, and every argument gets an answer; none has a requirement.
 mod answer;
-mod empty;
 mod listing;
 mod place;
 mod slot;
 
 use answer::after_stores;
-use empty::store_empty;
 use index_directory::mend::mend_entries;
 use index_directory::scan::Verdict;
 use index_directory::scan::scan;
@@ -19,6 +17,7 @@ use index_layout::place::Placed;
 use index_rules::Call;
 use index_segment::choice::Choice;
 use index_segment::probe::Hit;
+use index_structure::empty::store_empty;
 use index_structure::merge::MergeAnswer;
 use index_structure::merge::merge as merge_halves;
 use index_structure::split::SplitAnswer;

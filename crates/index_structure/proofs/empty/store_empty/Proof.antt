@@ -1,4 +1,4 @@
--- `index::empty::store_empty` meets its contract.
+-- `index_structure::empty::store_empty` meets its contract.
 use borrow.Author.Needs.{needs}
 use native.Mathlib.Omega.{arith}
 use Prim.Native.Nat.{_+_, _*_}
@@ -7,9 +7,9 @@ use Rattle.stores.proofs.Lists.{length-each-ones}
 use Rattle.index_layout.proofs.Shapes.{shape}
 use Rattle.stores.proofs.Loops.{executed-length}
 use Rattle.index_layout.proofs.Places.{first-segment-fits}
-use Rattle.index.proofs.Calls.{format-stores}
-use Rattle.index.proofs.empty.store_empty.Statement.{statement}
-use Rattle.index.proofs.empty.store_empty.Tie as tie
+use Rattle.index_structure.proofs.Empties.{format-stores}
+use Rattle.index_structure.proofs.empty.store_empty.Statement.{statement}
+use Rattle.index_structure.proofs.empty.store_empty.Tie as tie
 
 store-word-requires : tie.Need-store-word-requires
 store-word-requires c κs = let f = first-segment-fits _ _ _ (c .before .before .pre .0) (c .before .before .pre .1) in (omega arith, search needs)

@@ -1,4 +1,4 @@
--- `index::empty::clear_keys` meets its contract.
+-- `index_structure::empty::clear_keys` meets its contract.
 use borrow.Author.Needs.{needs}
 use native.Mathlib.Omega.{arith}
 use mathlib.Core.Path.{_≡_, _∙_}
@@ -10,8 +10,8 @@ use Rattle.stores.specs.Store.{Store, store}
 use Rattle.stores.specs.Executed.{Executed}
 use Rattle.index_rules.specs.Layout.{keyAddress}
 use Rattle.stores.proofs.Loops.{before-loop, after-turn, executed-length}
-use Rattle.index.proofs.empty.clear_keys.Statement.{statement}
-use Rattle.index.proofs.empty.clear_keys.Tie as tie
+use Rattle.index_structure.proofs.empty.clear_keys.Statement.{statement}
+use Rattle.index_structure.proofs.empty.clear_keys.Tie as tie
 
 -- The store for one slot.
 abbrev cleared : (base j : ℕ) → List Store

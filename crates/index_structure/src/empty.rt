@@ -25,7 +25,7 @@ fn clear_keys(words: &mut [u64], base: usize, allowance: u32, due: u32) -> u32
 
 // Makes an empty index of this shape. Word 0 is not valid before the last store, so a cut leaves no
 // index.
-pub(crate) fn store_empty(words: &mut [u64], max_depth: u32, segments: u32, allowance: u32) -> u32
+pub fn store_empty(words: &mut [u64], max_depth: u32, segments: u32, allowance: u32) -> u32
     requires { ⌜ (validShape «max_depth» segments ≡ true) × (wordsFor «max_depth» segments ≤ length (now words)) ⌝ }
     ensures { λ r. ⌜ Executed (formatStores «max_depth» segments) allowance 0 (now (words .entry)) r (now (words .exit)) ⌝ }
 {
