@@ -8,7 +8,7 @@ use crate::line::line_length;
 use replies::{Refusal, Reply};
 
 // The bytes of the lines, or the refusal of a lookup.
-#[derive(Drop)]
+#[derive(Clone, Copy)]
 pub enum Counted {
     Bytes(usize),
     Refused(Refusal),

@@ -22,7 +22,7 @@ const YEAR_KEYS: u64 = 65536;
 const MONTH_KEYS: u64 = 4096;
 
 // The key of a job, or the refusal of its year, month or number.
-#[derive(Drop)]
+#[derive(Clone, Copy)]
 pub enum Keyed {
     Key(u64),
     Refused(Refusal),

@@ -1,6 +1,8 @@
 // The month board (document 02, wish 2): each of planning's jobs is a record of the index, under a key
 // made of its year, month and number. Every array, every buffer and every argument gets an answer;
 // no call has a requirement. The index's own calls format and mend the board's array.
+#![tactic(auto)]
+
 mod count;
 mod job;
 mod line;

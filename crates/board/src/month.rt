@@ -9,7 +9,7 @@ const MONTHS: [[u8; 3]; 12] = [
 ];
 
 // A month, 1 to 12, of a year. The name is looked up once for all jobs of the month.
-#[derive(Drop)]
+#[derive(Clone, Copy)]
 pub struct Month {
     pub year: u64,
     pub month: u64,

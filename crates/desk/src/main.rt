@@ -1,4 +1,6 @@
 // The desk program.
+#![tactic(auto)]
+
 use desk_run::{MOST_BYTES, OUTPUT_BYTES};
 use libc::{STDIN_FILENO, STDOUT_FILENO};
 

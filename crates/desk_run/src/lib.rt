@@ -1,4 +1,6 @@
 // A script run on an index: each line's call is made, and its answer written to the output.
+#![tactic(auto)]
+
 mod output;
 
 ghost use Rattle.std.specs.Prelude.{◌+◌, ◌*◌, ◌≤◌, length, drop};
@@ -24,7 +26,7 @@ const INDEX_WORDS: usize = 4160;
 const LIST_WORDS: usize = 512;
 
 // How far a run has come: the position in the script, and the bytes written to the output.
-#[derive(Drop)]
+#[derive(Clone, Copy)]
 struct Progress {
     next: usize,
     written: usize,

@@ -11,7 +11,7 @@ use lib.Dec.{eqb}
 use lib.ListN.{length, take, drop, get_or, set}
 use lib.Seq.{take_all, take-suc-set}
 use Rattle.stores.proofs.Lists.{ahead, ahead_nil, ahead_ahead}
-use Rattle.bytes.specs.Bytes.{index_of, slice}
+use Rattle.text.specs.Scan.{index_of, slice}
 use Rattle.stores.specs.Lists.{pick}
 use Rattle.stores.proofs.Tests.{cases}
 use Rattle.text.specs.Parts.{tab, started_by, parts, fields_of}

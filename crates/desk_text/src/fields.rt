@@ -4,7 +4,7 @@ ghost use Rattle.std.proofs.Math.Option.{none};
 ghost use Rattle.desk_text.specs.Line.{call_of};
 ghost use Rattle.desk_text.specs.Fields.{fields_call};
 
-use bytes::scan::find;
+use text::scan::find;
 use text::TAB;
 use text::number::{Number, read_number};
 
@@ -13,7 +13,7 @@ pub const MOST_NUMBERS: usize = 3;
 
 // A letter and its numbers, of which the first `count` are there. Where a line is not of this form,
 // `sound` is false.
-#[derive(Drop)]
+#[derive(Clone, Copy)]
 pub struct Fields {
     pub sound: bool,
     pub letter: u8,

@@ -10,7 +10,7 @@ use index_rules::Call;
 const ALLOWANCE_LIMIT: u64 = 4294967296;
 
 // What a line is: a call, with the letter that its answer begins with; or some other line.
-#[derive(Drop)]
+#[derive(Clone, Copy)]
 pub enum Line {
     Called { letter: u8, call: Call },
     Other,

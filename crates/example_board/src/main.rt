@@ -1,5 +1,7 @@
 // The month board at work: jobs of two years are set, one year is printed, a job is removed, and the
 // year is printed again.
+#![tactic(auto)]
+
 use libc::STDOUT_FILENO;
 use replies::{Reply, refusal_number};
 

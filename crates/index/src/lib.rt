@@ -1,5 +1,7 @@
 // The calls of document 01: format, get, put, remove, mend, list; and document 02's merge and list of one
 // block. Every array, also the empty one, and every argument gets an answer; none has a requirement.
+#![tactic(auto)]
+
 mod answer;
 mod listing;
 mod place;

@@ -15,7 +15,7 @@ use index_segment::listing::{count_live, write_live};
 use replies::{Following, Refusal};
 
 // The header of an index that can be listed, or why it can't.
-#[derive(Drop)]
+#[derive(Clone, Copy)]
 pub enum Listable {
     As(Header),
     Refused(Refusal),
@@ -37,7 +37,7 @@ pub(crate) fn header_to_list(words: &[u64]) -> Listable
 
 // A block as a listing needs it: where its segment stands, what its keys share, and the index behind
 // it.
-#[derive(Drop)]
+#[derive(Clone, Copy)]
 pub struct BlockPlace {
     pub base: usize,
     pub block: Block,
@@ -63,7 +63,7 @@ pub(crate) fn read_block(words: &[u64], header: Header, i: usize) -> BlockPlace
 }
 
 // The block that an index leads, or none where it leads none.
-#[derive(Drop)]
+#[derive(Clone, Copy)]
 pub enum BlockFound {
     At(BlockPlace),
     NoLeader,

@@ -10,7 +10,7 @@ use index_layout::key::directory_index;
 use index_layout::place::Place;
 
 // Where the halves of a block begin.
-#[derive(Drop)]
+#[derive(Clone, Copy)]
 pub struct Starts {
     pub left: usize,
     pub right: usize,
@@ -18,7 +18,7 @@ pub struct Starts {
 
 // The halves of a block of the directory by the segments that they name, document 02's a and b, and the
 // block's first index.
-#[derive(Drop)]
+#[derive(Clone, Copy)]
 pub struct Pair {
     pub left: usize,
     pub right: usize,
@@ -26,7 +26,7 @@ pub struct Pair {
 }
 
 // The two halves of the block one depth shallower than a key's, or none of the same depth.
-#[derive(Drop)]
+#[derive(Clone, Copy)]
 pub enum Paired {
     Halves(Pair),
     NoBuddy,

@@ -11,7 +11,7 @@ use index_layout::entry::segment_of;
 use index_layout::header::{Header, pow2};
 
 // A free segment, if there is one.
-#[derive(Drop)]
+#[derive(Clone, Copy)]
 pub enum Free {
     Segment(usize),
     Nothing,

@@ -7,7 +7,7 @@ use index_layout::entry::{block_width, pack_entry};
 use index_layout::header::pow2;
 
 // A block of the directory of this depth: its local depth, its first index and its segment.
-#[derive(Drop)]
+#[derive(Clone, Copy)]
 pub struct JoinedBlock {
     pub depth: u32,
     pub local_depth: u32,

@@ -9,7 +9,7 @@ use index_layout::entry::{Entry, block_width, open_entry};
 use index_layout::header::{Header, pow2};
 
 // A leader is not valid; all are, but an entry differs from its leader; or neither.
-#[derive(Drop)]
+#[derive(Clone, Copy)]
 pub enum Verdict {
     Broken,
     Unmended,
@@ -17,7 +17,7 @@ pub enum Verdict {
 }
 
 // The block that a pass over the directory is in: its leading entry, and the index behind it.
-#[derive(Drop)]
+#[derive(Clone, Copy)]
 pub struct LedBlock {
     pub leading: u64,
     pub end: usize,
@@ -25,7 +25,7 @@ pub struct LedBlock {
 
 // Where a scan stands behind an entry: in a block, and whether every entry so far equals its
 // leader's; or at its end.
-#[derive(Drop)]
+#[derive(Clone, Copy)]
 pub enum ScanStep {
     In(LedBlock, bool),
     Stop(Verdict),

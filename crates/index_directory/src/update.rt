@@ -28,7 +28,7 @@ fn fill_entries(
 
 // A block of the directory of this depth, with its local depth and its first index, and the segments
 // of its left half and of its right half.
-#[derive(Drop)]
+#[derive(Clone, Copy)]
 pub struct Halves {
     pub depth: u32,
     pub local_depth: u32,

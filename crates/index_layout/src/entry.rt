@@ -11,7 +11,7 @@ use crate::header::{Header, pow2};
 const DEPTH_UNIT: u64 = 4294967296;
 
 // An entry in range, or one that a call refuses as broken.
-#[derive(Drop)]
+#[derive(Clone, Copy)]
 pub enum Entry {
     At { segment: usize, depth: u32 },
     Broken,

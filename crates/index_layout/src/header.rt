@@ -27,7 +27,7 @@ const MARK: u64 = 0x50414746;
 const MARK_UNIT: u64 = 4294967296;
 
 // What a valid word 0 says: document 01's G, D and S.
-#[derive(Drop)]
+#[derive(Clone, Copy)]
 pub struct Header {
     pub depth: u32,
     pub max_depth: u32,
@@ -35,7 +35,7 @@ pub struct Header {
 }
 
 // Word 0 as it was read.
-#[derive(Drop)]
+#[derive(Clone, Copy)]
 pub enum HeaderRead {
     Valid(Header),
     NotValid,

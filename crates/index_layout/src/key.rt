@@ -12,7 +12,7 @@ const REVERSED: u64 = 0xF7B3D591E6A2C480;
 const FOLD_UNIT: u64 = 1024;
 
 // A key's bucket, and its directory bits as one number, the first bit lowest.
-#[derive(Drop)]
+#[derive(Clone, Copy)]
 pub struct OpenKey {
     pub bucket: usize,
     pub bits: u64,
@@ -20,7 +20,7 @@ pub struct OpenKey {
 
 // The keys of a block of the directory: its local depth, and the directory bits that they share, as
 // one number whose higher bits do not matter.
-#[derive(Drop)]
+#[derive(Clone, Copy)]
 pub struct Block {
     pub local_depth: u32,
     pub bits: u64,

@@ -1,5 +1,7 @@
 // Where things stand in the array of words, and what a word of it says: constants, word 0, entries, a
 // key's bucket and directory bits, and a key's place.
+#![tactic(auto)]
+
 pub mod entry;
 pub mod header;
 pub mod key;

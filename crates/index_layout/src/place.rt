@@ -10,7 +10,7 @@ use replies::Refusal;
 
 // What word 0 says, the key and its directory bits, the segment that its entry names with its local
 // depth, and where that segment stands.
-#[derive(Drop)]
+#[derive(Clone, Copy)]
 pub struct Place {
     pub header: Header,
     pub key: u64,
@@ -21,7 +21,7 @@ pub struct Place {
 }
 
 // A key's place, or the refusal of the first test that failed.
-#[derive(Drop)]
+#[derive(Clone, Copy)]
 pub enum Placed {
     At(Place),
     Refused(Refusal),

@@ -1,8 +1,9 @@
 // The calls of the index as data. No code runs here.
+#![tactic(auto)]
 
 // One call as data. A format's depth is document 01's D, its segments document 01's S; the
 // allowance is the number of stores that the call may make.
-#[derive(Drop)]
+#[derive(Clone, Copy)]
 pub enum Call {
     Format {
         depth: u64,

@@ -6,7 +6,7 @@ ghost use Rattle.index_segment.specs.Bucket.{bucket_words};
 use index_layout::key::open_key;
 use index_layout::{BUCKET_WORDS, BUCKETS};
 
-#[derive(Drop)]
+#[derive(Clone, Copy)]
 pub struct Bucket {
     pub words: [u64; BUCKET_WORDS],
 }

@@ -14,7 +14,7 @@ use index_layout::{BUCKET_SLOTS, WINDOW_BUCKETS};
 
 // Where a put goes: to the slot that has the key, into the slot for a new key, or nowhere, since the
 // probe window is full of other live keys.
-#[derive(Drop)]
+#[derive(Clone, Copy)]
 pub enum Choice {
     Found(usize),
     Into(usize),

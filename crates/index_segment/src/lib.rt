@@ -1,6 +1,8 @@
 // The 128 words of one segment, lent as a part of the array: the search for a key, the slot for a
 // put, the copy step of a split, the slots of a merge, and listing. Slot j is word 2 * j, the key, and
 // word 2 * j + 1, the value.
+#![tactic(auto)]
+
 pub mod bucket;
 pub mod choice;
 pub mod copy;
@@ -10,7 +12,7 @@ pub mod merge;
 pub mod probe;
 
 // What a slot holds.
-#[derive(Drop)]
+#[derive(Clone, Copy)]
 pub(crate) struct Held {
     pub key: u64,
     pub value: u64,

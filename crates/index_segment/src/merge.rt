@@ -12,7 +12,7 @@ use index_layout::{SEGMENT_WORDS, SLOTS};
 use stores::store_word;
 
 // What a slot holds on both sides: the left segment's key, and the right one's key and value.
-#[derive(Drop)]
+#[derive(Clone, Copy)]
 pub(crate) struct Sides {
     pub left_key: u64,
     pub key: u64,

@@ -7,7 +7,7 @@ use crate::bucket::{bucket_at, window_bucket};
 use index_layout::{BUCKET_SLOTS, WINDOW_BUCKETS};
 
 // What a search answers: a slot's number, or that there is none.
-#[derive(Drop)]
+#[derive(Clone, Copy)]
 pub enum Hit {
     At(usize),
     Absent,

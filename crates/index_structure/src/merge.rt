@@ -15,7 +15,7 @@ use index_layout::place::Place;
 use index_segment::merge::{merge_records, some_both_live};
 
 // What a merge answers: the number of stores due, or what its tests of the two halves refuse.
-#[derive(Drop)]
+#[derive(Clone, Copy)]
 pub enum MergeAnswer {
     Due(u32),
     NoBuddy,
@@ -24,7 +24,7 @@ pub enum MergeAnswer {
 
 // The two halves as the slots take them: where their segments stand, document 02's a and b, and the block
 // that they make.
-#[derive(Drop)]
+#[derive(Clone, Copy)]
 pub struct Merging {
     pub left_base: usize,
     pub right_base: usize,

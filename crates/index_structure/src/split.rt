@@ -17,7 +17,7 @@ use index_layout::place::Place;
 use index_segment::copy::copy_records;
 
 // What a split answers: the number of stores due, or what step 1 refuses.
-#[derive(Drop)]
+#[derive(Clone, Copy)]
 pub enum SplitAnswer {
     Due(u32),
     TooDeep,
@@ -26,7 +26,7 @@ pub enum SplitAnswer {
 
 // Steps 3 and 4 of a split: the key's place, the directory's depth behind any doubling, and the new
 // segment.
-#[derive(Drop)]
+#[derive(Clone, Copy)]
 pub struct Halving {
     pub place: Place,
     pub depth: u32,

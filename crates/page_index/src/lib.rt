@@ -1,5 +1,7 @@
 // The calls of the index for C and Rust, those of the header page_index.h. Each is the index's call, its
 // answer told in three numbers. The month board's are in `month_board`.
+#![tactic(auto)]
+
 mod month_board;
 
 ghost use Rattle.std.specs.Prelude.{◌≡◌, length};
@@ -16,7 +18,7 @@ const ABSENT: u32 = 255;
 
 // An answer: C's `struct page_index_reply`.
 #[repr(C)]
-#[derive(Drop)]
+#[derive(Clone, Copy)]
 pub struct PageIndexReply {
     pub code: u32,
     pub stores: u32,

@@ -1,10 +1,12 @@
 // What the calls of a store answer: refusals and their numbers, replies, answers. It knows no store.
+#![tactic(auto)]
+
 ghost use Rattle.std.specs.Prelude.{◌≡◌};
 ghost use Rattle.replies.specs.Replies.{number_of};
 
 // Document 01, 'Replies that say no': the ten refusals, in the order of its table; and those that
 // document 02 adds, in the order of their numbers.
-#[derive(Drop)]
+#[derive(Clone, Copy)]
 pub enum Refusal {
     NoStore,
     NoKey,
@@ -25,7 +27,7 @@ pub enum Refusal {
 }
 
 // What follows in a listing block by block: the block at this index, or none, since it was the last.
-#[derive(Drop)]
+#[derive(Clone, Copy)]
 pub enum Following {
     Next(u64),
     Last,
@@ -34,7 +36,7 @@ pub enum Following {
 // The reply of a call: done; done with a value, which is what a get found or how many records a
 // list wrote; done with how many records of one block were written, and what follows; absent, for get
 // and remove; or a refusal.
-#[derive(Drop)]
+#[derive(Clone, Copy)]
 pub enum Reply {
     Done,
     Value(u64),
@@ -44,7 +46,7 @@ pub enum Reply {
 }
 
 // The answer of a call: its reply, and the number of stores it made.
-#[derive(Drop)]
+#[derive(Clone, Copy)]
 pub struct Answer {
     pub reply: Reply,
     pub stores: u32,

@@ -46,13 +46,13 @@ module _ (M : Machine) where
   mends_valid b p [] e = refl
   mends_valid b p (c ∷ cs) e =
       and_true (mend_may_follow p.needs_recovery (M.view c) (M.step p.array c).reply (first_mends b p c cs e))
-      (mends_valid _ (next M p c) cs (rest_mends b p c cs e))
+      (mends_valid (is_done (M.step p.array c).reply) (next M p c) cs (rest_mends b p c cs e))
 
   mends_keep_map : (b : Bool) (p : Point) (cs : List M.Call) → mends_behind M b p cs ≡ true → (finish M p cs).map ≡ p.map
   unfolding finish next
   mends_keep_map b p [] e = refl
   mends_keep_map b p (c ∷ cs) e =
-      mends_keep_map _ (next M p c) cs (rest_mends b p c cs e)
+      mends_keep_map (is_done (M.step p.array c).reply) (next M p c) cs (rest_mends b p c cs e)
       ∙ mend_tells_nothing (M.view c) (is_done (M.step p.array c).reply) p.map (first_mends b p c cs e)
 
 -- THE THEOREM, of every store that has an invariant under which its gets agree with the map. (That the last mend is done is not needed.)

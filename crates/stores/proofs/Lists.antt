@@ -151,10 +151,15 @@ first_some p (x ∷ xs) y e =
 
 -- Where nothing is found, no element passes.
 pub first_none : (p : ℕ → Bool) (xs : List ℕ) → first_in p xs ≡ none → (y : ℕ) → Memᴰ y xs → p y ≡ false
-first_none p xs e y (mathlib.Core.List.Memᴰ.head {x = x} {xs = ys} q) =
-    by_test (p x) (λ t. absurd (some_none x (sym (first_here p x ys t) ∙ e))) (λ t. rw q t)
-first_none p xs e y (mathlib.Core.List.Memᴰ.tail {x = x} {xs = ys} m) =
-    by_test (p x) (λ t. absurd (some_none x (sym (first_here p x ys t) ∙ e))) (λ t. first_none p ys (sym (first_next p x ys t) ∙ e) y m)
+first_none p [] e y m = absurd (mathlib.Core.List.Memᴰ.not-nil m)
+first_none p (x ∷ xs) e y m =
+    by_test (p x)
+    (λ t. absurd (some_none x (sym (first_here p x xs t) ∙ e)))
+    (λ t. passed_by t (first_none p xs (sym (first_next p x xs t) ∙ e) y) m)
+  where
+    passed_by : p x ≡ false → (Memᴰ y xs → p y ≡ false) → Memᴰ y (x ∷ xs) → p y ≡ false
+    passed_by t rest (mathlib.Core.List.Memᴰ.head q) = rw q t
+    passed_by t rest (mathlib.Core.List.Memᴰ.tail n) = rest n
 
 -- ---- Tests below a bound
 

@@ -1,4 +1,6 @@
 // A word stored under an allowance.
+#![tactic(auto)]
+
 ghost use Rattle.std.specs.Prelude.{◌<◌, [], ◌∷◌, length};
 ghost use Rattle.stores.specs.Store.{store};
 ghost use Rattle.stores.specs.Executed.{Executed};

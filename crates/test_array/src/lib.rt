@@ -2,6 +2,8 @@
 // array: words, entries, blocks, keys and slots as document 01 fixes them; the scan and the search for a key;
 // the calls that store nothing; a list array beside a row of records; and the draft on which `test_model`
 // makes the calls that store.
+#![tactic(auto)]
+
 pub mod array;
 pub mod block_listing;
 pub mod blocks;

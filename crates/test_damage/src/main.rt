@@ -1,6 +1,8 @@
 // Family 3 of the test: damaged arrays. A short run is saved; then, again and again, the saved array is
 // spoiled in one or two places, lent with its just length, one word less or some more, and random calls
 // are made on it.
+#![tactic(auto)]
+
 use std::num::wrapping_add_u64;
 use test_array::array::{power, words_before};
 use test_array::route::unfolded;

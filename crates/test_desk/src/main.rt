@@ -1,5 +1,7 @@
 // Runs scripts of the desk against stored outputs. The arguments are file names in pairs: a script,
 // and the output that it must give.
+#![tactic(auto)]
+
 ghost use Rattle.std.specs.Prelude.{◌≤◌};
 ghost use Rattle.io.specs.Counts.{IsPrefixLen};
 

@@ -1,6 +1,8 @@
 // Family 1 of the test: document 01's known states a to k, and known merges and known lists of one block of
 // document 02. Each figure of the documents is compared with what the index says, beside the comparison with the
 // model. The states are the rows of the file `stdin`, whose head says what each letter is for; k alone stands here.
+#![tactic(auto)]
+
 mod reading;
 
 use libc::STDIN_FILENO;

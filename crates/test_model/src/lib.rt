@@ -5,6 +5,8 @@
 // found by marking. What the calls only read is in `test_array`.
 //
 // An index is the first `length` words of an array of the type `Cells`.
+#![tactic(auto)]
+
 mod formatting;
 mod mending;
 mod merging;

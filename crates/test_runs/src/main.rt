@@ -4,6 +4,8 @@
 // before each mend, every key is looked up and compared with the plain table. Behind the random steps, and
 // behind one key of eight that are taken away, the lists of one block, joined, are compared with the full
 // listing.
+#![tactic(auto)]
+
 mod parts;
 mod table;
 

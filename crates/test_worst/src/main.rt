@@ -4,6 +4,8 @@
 // sixty-four records and has all 4,096 entries to store. Both are run with every allowance around the
 // borders of their phases. The block of the sixty-four keys is the largest that a list of one block meets:
 // it takes 128 words.
+#![tactic(auto)]
+
 use std::num::{wrapping_add_u32, wrapping_add_u64};
 use test_array::array::power;
 use test_array::outcomes::{DONE, SHORT_LIST};

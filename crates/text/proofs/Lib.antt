@@ -2,5 +2,6 @@
 pub mod Digits
 pub mod Parts
 pub mod Lines
+pub mod Indices
 pub mod Joined
 pub mod Samples

@@ -9,7 +9,7 @@ use lib.Dec.{eqb}
 use lib.ListN.{length, take, drop, get_or, drop_of_length-le}
 use lib.Seq.{drop-cons, drop-drop}
 use Rattle.stores.proofs.Tests.{by_test}
-use Rattle.bytes.specs.Bytes.{index_of, index_after, slice}
+use Rattle.text.specs.Scan.{index_of, slice}
 use Rattle.text.specs.Parts.{line_feed, started_by, parts, nonempty, lines_of}
 use Rattle.text.specs.Script.{NextLine}
 use Rattle.text.proofs.Parts.{parts_first, parts_from, found_index}
@@ -26,7 +26,7 @@ lines_skip script start h e = rw (add-one start, drop-cons script start 0 h, e)
 
 -- A line in front goes up to the first line feed.
 line_index : (x : ℕ) (xs : List ℕ) → (x ≡ line_feed → ⊥) → index_of line_feed (x ∷ xs) ≡ suc (index_of line_feed xs)
-unfolding index_of index_after
+unfolding index_of
 line_index x xs n = rw (ne_eqb x line_feed n)
 
 lines_first : (x : ℕ) (xs : List ℕ) → (x ≡ line_feed → ⊥)

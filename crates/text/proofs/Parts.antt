@@ -6,7 +6,7 @@ use native.Mathlib.Omega.{arith}
 use lib.Dec.{eqb}
 use lib.ListN.{length, take, drop, length-drop}
 use lib.Seq.{take-length, drop-drop}
-use Rattle.bytes.specs.Bytes.{index_of, index_after, slice}
+use Rattle.text.specs.Scan.{index_of, slice}
 use Rattle.stores.specs.Lists.{pick}
 use Rattle.stores.proofs.Tests.{by_test}
 use Rattle.text.specs.Parts.{started_by, parts}
@@ -20,18 +20,18 @@ behind b (x ∷ xs) =
 
 -- The first part goes up to the first separator.
 pub parts_first : (b : ℕ) (xs : List ℕ) → parts b xs ≡ take (index_of b xs) xs ∷ behind b xs
-unfolding parts started_by behind index_of index_after
+unfolding parts started_by behind index_of
 parts_first b [] = refl
 parts_first b (x ∷ xs) = by_test (eqb x b) (λ t. rw t) (λ t. rw t (ap (started_by x) (parts_first b xs)))
 
 -- From the separator on, an empty part comes first.
 pub parts_from : (b : ℕ) (xs : List ℕ) → parts b (drop (index_of b xs) xs) ≡ [] ∷ behind b xs
-unfolding parts behind index_of index_after
+unfolding parts behind index_of
 parts_from b [] = refl
 parts_from b (x ∷ xs) = by_test (eqb x b) (λ t. rw (t, t)) (λ t. rw t (parts_from b xs))
 
 pub behind_last : (b : ℕ) (xs : List ℕ) → index_of b xs ≡ length xs → behind b xs ≡ []
-unfolding behind index_of index_after
+unfolding behind index_of
 behind_last b [] e = refl
 behind_last b (x ∷ xs) e =
     by_test (eqb x b)
@@ -41,7 +41,7 @@ behind_last b (x ∷ xs) e =
     rw t (behind_last b xs (omega arith)))
 
 pub behind_more : (b : ℕ) (xs : List ℕ) → index_of b xs < length xs → behind b xs ≡ parts b (drop (suc (index_of b xs)) xs)
-unfolding behind index_of index_after
+unfolding behind index_of
 behind_more b [] h = absurd (omega arith)
 behind_more b (x ∷ xs) h =
     by_test (eqb x b)

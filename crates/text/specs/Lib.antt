@@ -2,3 +2,4 @@
 pub mod Parts
 pub mod Number
 pub mod Script
+pub mod Scan

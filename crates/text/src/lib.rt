@@ -1,6 +1,9 @@
 // Text: numbers read and written, lines and fields. It knows no call and no store.
+#![tactic(auto)]
+
 pub mod number;
 pub mod output;
+pub mod scan;
 pub mod script;
 
 pub const TAB: u8 = b'\t';

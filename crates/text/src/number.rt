@@ -10,7 +10,7 @@ pub(crate) const ZERO: u8 = b'0';
 const NINE: u8 = b'9';
 
 // What a field spells: a number below 2^64, or none.
-#[derive(Drop)]
+#[derive(Clone, Copy)]
 pub enum Number {
     Is(u64),
     Not,

@@ -2,10 +2,10 @@
 ghost use Rattle.text.specs.Script.{NextLine};
 
 use crate::LINE_FEED;
-use bytes::scan::find;
+use crate::scan::find;
 
 // Where a line stands: from `start` to the byte before `end`.
-#[derive(Drop)]
+#[derive(Clone, Copy)]
 pub struct Span {
     pub start: usize,
     pub end: usize,

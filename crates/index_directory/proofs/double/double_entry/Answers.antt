@@ -1,0 +1,6 @@
+-- `index_directory::double::double_entry` meets its contract.
+use borrow.Author.Rules.{rules}
+use Rattle.index_directory.proofs.double.double_entry.Goals as goal
+
+pub returns : goal.returns
+returns c = c.Store-word.ensures

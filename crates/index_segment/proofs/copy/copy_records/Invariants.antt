@@ -1,0 +1,27 @@
+-- `index_segment::copy::copy_records` meets its contract. The invariant: the stores of the slots so far are due.
+use Prim.Native.Nat.{◌+◌, ◌*◌, ◌-◌, ◌≤◌}
+use borrow.Author.Rules.{rules}
+use native.Mathlib.Omega.{arith}
+use native.Mathlib.Numerals.{add-one}
+use mathlib.Core.Path.{◌≡◌, refl, ◌∙◌}
+use lib.ListN.{length}
+use Rattle.stores.specs.Lists.{each}
+use Rattle.stores.specs.Executed.{Executed}
+use Rattle.stores.proofs.Lists.{each_zero, each_suc}
+use Rattle.stores.proofs.Stores.{executed_none, executed_append}
+use Rattle.index_layout.specs.Blocks.{shared}
+use Rattle.index_rules.specs.Split.{copy_slot, copying}
+use Rattle.index_segment.specs.Slot.{slot_copy}
+use Rattle.index_segment.proofs.Words.{slot_holds}
+use Rattle.index_segment.proofs.Copies.{copy_short}
+use Rattle.index_segment.proofs.copy.copy_records.Given as goal
+
+abbrev pub invariant-loop-slot : goal.invariant-loop-slot
+invariant-loop-slot l =
+    (l.slot ≤ 64)
+    × (length l.new_segment ≡ length l.initial.new_segment)
+    × (l.due ≤ l.due-2 + 2 * l.slot)
+    × Executed (each (slot_copy l.old l.block) l.slot) l.allowance l.due-2 l.initial.new_segment l.due l.new_segment
+
+abbrev pub decreases-loop-slot : goal.decreases-loop-slot
+decreases-loop-slot l = 64 - l.slot

@@ -1,0 +1,45 @@
+-- `index_segment::listing::write_slot` meets its contract.
+use Prim.Native.Nat.{◌+◌, ◌≤◌}
+use borrow.Author.Rules.{rules}
+use native.Mathlib.Omega.{arith}
+use mathlib.Core.Path.{sym, ◌∙◌}
+use lib.ListN.{length, length-set}
+use Rattle.index_layout.specs.Blocks.{shared}
+use Rattle.index_segment.proofs.Records.{written_live, written_stale}
+use Rattle.index_segment.proofs.listing.write_slot.Goals as goal
+
+-- A live record has room.
+room : (c : tie.Then1) → c.before.before.before.args.at + 2 ≤ length c.before.before.before.args.list.now
+room c = c.before.before.before.requires.1 (sym c.before.is_live.ensures ∙ c.if1.true)
+
+pub bounds-list-at-then-is_live : goal.bounds-list-at-then-is_live
+bounds-list-at-then-is_live c = simp length-set (omega (arith, room c))
+
+pub returns-then-is_live : goal.returns-then-is_live
+returns-then-is_live c =
+    let u = c.args in
+    let L = u.block.local_depth in
+    let lives = sym c.is_live.ensures ∙ c.if-is_live.true in
+    λ a slot h. written_live a L (shared u.block) slot u.held h u.at u.list.now lives (room c)
+
+pub returns : goal.returns
+returns c =
+    let u = c.args in
+    let L = u.block.local_depth in
+    let stale = sym c.is_live.ensures ∙ c.if-is_live.false in
+    λ a slot h. written_stale a L (shared u.block) slot u.held h u.at u.list.now stale
+
+pub offset_bounds-list-at : goal.offset_bounds-list-at
+offset_bounds-list-at c = omega (arith, room c)
+
+pub bounds-list-at : goal.bounds-list-at
+bounds-list-at c = omega (arith, room c)
+
+pub overflow_add-list : goal.overflow_add-list
+overflow_add-list c = omega (arith, room c)
+
+pub offset_bounds-list-at-then-is_live : goal.offset_bounds-list-at-then-is_live
+offset_bounds-list-at-then-is_live c = omega (arith, room c)
+
+pub overflow_add-result : goal.overflow_add-result
+overflow_add-result c = omega (arith, room c)

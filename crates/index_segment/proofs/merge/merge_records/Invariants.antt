@@ -1,0 +1,27 @@
+-- `index_segment::merge::merge_records` meets its contract. The invariant: the stores of the slots so far are due.
+use Prim.Native.Nat.{◌+◌, ◌*◌, ◌-◌, ◌≤◌}
+use borrow.Author.Rules.{rules}
+use native.Mathlib.Omega.{arith}
+use native.Mathlib.Numerals.{add-one}
+use mathlib.Core.Path.{◌≡◌, refl, ◌∙◌}
+use lib.ListN.{length}
+use Rattle.stores.specs.Lists.{each}
+use Rattle.stores.specs.Store.{word}
+use Rattle.stores.specs.Executed.{Executed}
+use Rattle.stores.proofs.Lists.{each_zero, each_suc}
+use Rattle.stores.proofs.Stores.{executed_none, executed_append}
+use Rattle.index_layout.specs.Blocks.{shared}
+use Rattle.index_rules.specs.Merge.{merge_slot, merging_slots}
+use Rattle.index_laws.proofs.Merge.{length_record}
+use Rattle.index_segment.proofs.Merges.{slot_merged}
+use Rattle.index_segment.proofs.merge.merge_records.Given as goal
+
+abbrev pub invariant-loop-slot : goal.invariant-loop-slot
+invariant-loop-slot l =
+    (l.slot ≤ 64)
+    × (length l.segment ≡ length l.initial.segment)
+    × (l.due ≤ 2 * l.slot)
+    × Executed (each (merge_slot l.left 0 l.right 0 l.joined.local_depth (shared l.joined)) l.slot) l.allowance 0 l.initial.segment l.due l.segment
+
+abbrev pub decreases-loop-slot : goal.decreases-loop-slot
+decreases-loop-slot l = 64 - l.slot
