@@ -29,10 +29,9 @@ returns-in-At c =
     let here = c.loop-b in
     let number = c.window_bucket-number in
     let first = c.slot_with_key.ensures u.segment.now c.bucket_at-bucket.ensures in
-    let slot = c.slot-1.given in
     sym
-    (choose_found u.segment.now u.block.local_depth _ u.key slot.0.0
-    (bucket_hit _ u.key here.b number.result number.ensures here.invariant.1 _ (search rules) (sym first ∙ ap hit_of slot.1)))
+    (choose_found u.segment.now u.block.local_depth _ u.key c.in-At.slot
+    (bucket_hit _ u.key here.b number.result number.ensures here.invariant.1 _ (search rules) (sym first ∙ ap hit_of c.in-At.is)))
 
 pub slot_with_key-requires-in-loop-b : goal.slot_with_key-requires-in-loop-b
 slot_with_key-requires-in-loop-b c = omega (arith, window_bucket_lt c.args.key c.loop-b.b)

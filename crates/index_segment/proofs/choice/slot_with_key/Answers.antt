@@ -21,7 +21,7 @@ returns-then-bucket-j c =
     λ a e.
     sym
     (slot_hit _ u.number j k (c.loop-j.invariant.1 a e)
-    (slot_has a u.t1.words u.number j u.key e k c.if-bucket-j.true))
+    (slot_has a u.bucket.words u.number j u.key e k c.if-bucket-j.true))
 
 pub loop-j-preserved : goal.loop-j-preserved
 loop-j-preserved c =
@@ -31,7 +31,7 @@ loop-j-preserved c =
       search rules,
       λ a e.
           slot_passed _ u.number j (c.loop-j.invariant.1 a e)
-          (slot_has_not a u.t1.words u.number j u.key e k c.if-bucket-j.false),
+          (slot_has_not a u.bucket.words u.number j u.key e k c.if-bucket-j.false),
     )
 
 pub returns : goal.returns

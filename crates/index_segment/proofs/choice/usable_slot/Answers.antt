@@ -9,6 +9,8 @@ use Rattle.stores.specs.Lists.{first_in}
 use Rattle.index_layout.specs.Blocks.{shared}
 use Rattle.index_segment.specs.Bucket.{bucket_words, usable}
 use Rattle.index_segment.proofs.Search.{slots_before, no_slot_yet, slot_passed, slot_hit, no_slot, slot_usable}
+use mathlib.Core.Bool.{not}
+use mathlib.Core.Path.{ap}
 use Rattle.index_segment.proofs.choice.usable_slot.Goals as goal
 
 pub loop-j-init : goal.loop-j-init
@@ -24,7 +26,7 @@ returns-then-not-is_live c =
     λ a e.
     sym
     (slot_hit _ u.number j k (c.loop-j.invariant.1 a e)
-    (slot_usable a u.t1.words u.number j 0 e k L (shared u.block) test.result test.ensures ∙ c.if-not-is_live.true))
+    (slot_usable a u.bucket.words u.number j 0 e k L (shared u.block) test.result test.ensures ∙ ap not c.if-not-is_live.true))
 
 pub loop-j-preserved : goal.loop-j-preserved
 loop-j-preserved c =
@@ -36,7 +38,7 @@ loop-j-preserved c =
       search rules,
       λ a e.
           slot_passed _ u.number j (c.loop-j.invariant.1 a e)
-          (slot_usable a u.t1.words u.number j 0 e k L (shared u.block) test.result test.ensures ∙ c.if-not-is_live.false),
+          (slot_usable a u.bucket.words u.number j 0 e k L (shared u.block) test.result test.ensures ∙ ap not c.if-not-is_live.false),
     )
 
 pub returns : goal.returns

@@ -22,7 +22,7 @@ loop-slot-init c = (search rules, refl, search rules, rw (each_zero _) (executed
 pub loop-slot-preserved : goal.loop-slot-preserved
 loop-slot-preserved c =
     let u = c.args in
-    let old = u.t1 in
+    let old = u.old in
     let L = u.block.local_depth in
     let bits = shared u.block in
     let here = c.loop-slot in
@@ -30,11 +30,11 @@ loop-slot-preserved c =
     let call = c.copy_slot-due in
     let copied = call.ensures old (slot_holds old slot) in (
       search rules,
-      call.auto.0 ∙ here.invariant.1,
+      call.auto.new_segment ∙ here.invariant.1,
       omega (arith, copied.count, copy_short old L bits slot),
       rw (add-one slot, each_suc (copy_slot old 0 0 L bits) slot)
           (executed_append (each (copy_slot old 0 0 L bits) slot) (copy_slot old 0 0 L bits slot) u.allowance u.due u.new_segment.now
-          here.due here.new_segment call.result call.new.0 here.invariant.3 copied),
+          here.due here.new_segment call.result call.new.new_segment here.invariant.3 copied),
     )
 
 pub returns : goal.returns

@@ -17,12 +17,12 @@ returns-then-moves c =
     let bits = shared u.block in
     let j = u.slot in
     let test = c.moves in
-    let first = c.Store-word in
+    let first = c.store_word-value_due in
     let second = c.store_word in
     λ a h.
     rw (copy_moved a L bits j u.held h (sym (test.ensures a j h.key_there) ∙ c.if-moves.true))
     (executed_append (store (2 * j + 1) u.held.value ∷ []) (store (2 * j) u.held.key ∷ []) u.allowance u.due u.new_segment.now
-    first.result first.new.0 second.result second.new.0 first.ensures second.ensures)
+    first.result first.new.words second.result second.new.words first.ensures second.ensures)
 
 pub returns : goal.returns
 returns c =

@@ -11,6 +11,7 @@ use Rattle.index_layout.specs.Blocks.{shared}
 use Rattle.index_segment.proofs.Words.{key_word}
 use Rattle.index_segment.proofs.Records.{records_below, records_none, count_live, count_stale, count_small}
 use Rattle.index_segment.proofs.listing.count_live.Goals as goal
+use Rattle.index_segment.proofs.listing.count_live.Goals.{then-is_live, else-is_live}
 
 pub loop-slot-init : goal.loop-slot-init
 loop-slot-init c = (search rules, rw records_none)
@@ -31,8 +32,10 @@ loop-slot-preserved c =
     let test = c.is_live in
     let seen : live L bits (key_at a 0 slot) ≡ test.result = rw (key_word a slot) (sym test.ensures) in (
       search rules,
-      ⊎_elim (λ w. omega (arith, count_live a L bits slot (seen ∙ w.0.taken))) (λ w. omega (arith, count_stale a L bits slot (seen ∙ w.0.left)))
-          c.if-is_live.branch,
+      elim c.if-is_live.branch [
+        then-is_live w ↦ omega (arith, count_live a L bits slot (seen ∙ w.if-is_live.true))
+        | else-is_live w ↦ omega (arith, count_stale a L bits slot (seen ∙ w.if-is_live.false))
+      ],
     )
 
 pub returns : goal.returns

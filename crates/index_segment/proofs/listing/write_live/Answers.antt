@@ -40,10 +40,10 @@ loop-slot-preserved c =
     let slot = here.slot in
     let call = c.write_slot-next in (
       search rules,
-      call.auto.0 ∙ here.invariant.1,
+      call.auto.list ∙ here.invariant.1,
       rw (records_more a L bits slot, words_append (records_below a L bits slot) (live_record a 0 L bits slot))
           (written_append (words_of (records_below a L bits slot)) (words_of (live_record a 0 L bits slot)) u.at u.list.now here.next
-          here.list call.result call.new.0 (search rules) here.invariant.2
+          here.list call.result call.new.list (search rules) here.invariant.2
           (call.ensures a slot (slot_holds a slot))),
     )
 

@@ -8,19 +8,15 @@ use Rattle.index_layout.specs.Blocks.{shared}
 use Rattle.index_segment.proofs.Records.{written_live, written_stale}
 use Rattle.index_segment.proofs.listing.write_slot.Goals as goal
 
--- A live record has room.
-room : (c : tie.Then1) → c.before.before.before.args.at + 2 ≤ length c.before.before.before.args.list.now
-room c = c.before.before.before.requires.1 (sym c.before.is_live.ensures ∙ c.if1.true)
-
 pub bounds-list-at-then-is_live : goal.bounds-list-at-then-is_live
-bounds-list-at-then-is_live c = simp length-set (omega (arith, room c))
+bounds-list-at-then-is_live c = simp length-set (omega (arith, c.requires.1 (sym c.is_live.ensures ∙ c.if-is_live.true)))
 
 pub returns-then-is_live : goal.returns-then-is_live
 returns-then-is_live c =
     let u = c.args in
     let L = u.block.local_depth in
     let lives = sym c.is_live.ensures ∙ c.if-is_live.true in
-    λ a slot h. written_live a L (shared u.block) slot u.held h u.at u.list.now lives (room c)
+    λ a slot h. written_live a L (shared u.block) slot u.held h u.at u.list.now lives (c.requires.1 (sym c.is_live.ensures ∙ c.if-is_live.true))
 
 pub returns : goal.returns
 returns c =
@@ -30,16 +26,16 @@ returns c =
     λ a slot h. written_stale a L (shared u.block) slot u.held h u.at u.list.now stale
 
 pub offset_bounds-list-at : goal.offset_bounds-list-at
-offset_bounds-list-at c = omega (arith, room c)
+offset_bounds-list-at c = omega (arith, c.requires.1 (sym c.is_live.ensures ∙ c.if-is_live.true))
 
 pub bounds-list-at : goal.bounds-list-at
-bounds-list-at c = omega (arith, room c)
+bounds-list-at c = omega (arith, c.requires.1 (sym c.is_live.ensures ∙ c.if-is_live.true))
 
 pub overflow_add-list : goal.overflow_add-list
-overflow_add-list c = omega (arith, room c)
+overflow_add-list c = omega (arith, c.requires.1 (sym c.is_live.ensures ∙ c.if-is_live.true))
 
 pub offset_bounds-list-at-then-is_live : goal.offset_bounds-list-at-then-is_live
-offset_bounds-list-at-then-is_live c = omega (arith, room c)
+offset_bounds-list-at-then-is_live c = omega (arith, c.requires.1 (sym c.is_live.ensures ∙ c.if-is_live.true))
 
 pub overflow_add-result : goal.overflow_add-result
-overflow_add-result c = omega (arith, room c)
+overflow_add-result c = omega (arith, c.requires.1 (sym c.is_live.ensures ∙ c.if-is_live.true))

@@ -27,14 +27,14 @@ loop-slot-preserved c =
     let here = c.loop-slot in
     let slot = here.slot in
     let call = c.merge_slot-due in
-    let merged : Executed (merge_slot u.t1 0 u.t2 0 M bits slot) u.allowance here.due here.segment call.result call.new.0 =
-    rw (← slot_merged u.t1 u.t2 M bits slot) call.ensures in (
+    let merged : Executed (merge_slot u.left 0 u.right 0 M bits slot) u.allowance here.due here.segment call.result call.new.segment =
+    rw (← slot_merged u.left u.right M bits slot) call.ensures in (
       search rules,
-      call.auto.0 ∙ here.invariant.1,
-      omega (arith, call.ensures.count, length_record 0 M bits slot (word u.t1 (2 * slot)) (word u.t2 (2 * slot)) (word u.t2 (2 * slot + 1))),
-      rw (add-one slot, each_suc (merge_slot u.t1 0 u.t2 0 M bits) slot)
-          (executed_append (each (merge_slot u.t1 0 u.t2 0 M bits) slot) (merge_slot u.t1 0 u.t2 0 M bits slot) u.allowance 0 u.segment.now
-          here.due here.segment call.result call.new.0 here.invariant.3 merged),
+      call.auto.segment ∙ here.invariant.1,
+      omega (arith, call.ensures.count, length_record 0 M bits slot (word u.left (2 * slot)) (word u.right (2 * slot)) (word u.right (2 * slot + 1))),
+      rw (add-one slot, each_suc (merge_slot u.left 0 u.right 0 M bits) slot)
+          (executed_append (each (merge_slot u.left 0 u.right 0 M bits) slot) (merge_slot u.left 0 u.right 0 M bits slot) u.allowance 0 u.segment.now
+          here.due here.segment call.result call.new.segment here.invariant.3 merged),
     )
 
 pub returns : goal.returns

@@ -22,11 +22,11 @@ returns-then-is_live_in_half c =
     let s = u.sides in
     let test = c.is_live_in_half in
     let moved : live_right M bits s.key ≡ true = sym test.ensures ∙ c.if-is_live_in_half.true in
-    let first = c.Store-word in
+    let first = c.store_word-value_due in
     let second = c.store_word in
     rw (merged_moved M bits j s.left_key s.key s.value moved)
     (executed_append (store (2 * j + 1) s.value ∷ []) (store (2 * j) s.key ∷ []) u.allowance u.due u.segment.now
-    first.result first.new.0 second.result second.new.0 first.ensures second.ensures)
+    first.result first.new.words second.result second.new.words first.ensures second.ensures)
 
 pub returns-then-left_key-eq0 : goal.returns-then-left_key-eq0
 returns-then-left_key-eq0 c =
