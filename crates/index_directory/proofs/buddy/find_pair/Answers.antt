@@ -8,14 +8,6 @@ use Rattle.index_layout.proofs.Shapes.{bounds}
 use Rattle.index_directory.proofs.Buddies.{whole_directory, joined_low, buddy_below, other_depth, same_depth}
 use Rattle.index_directory.proofs.buddy.find_pair.Goals as goal
 
--- The buddy's first index is in the directory.
-inside : (c : tie.After-buddy-index) → c.buddy-index.result < 2 ^ c.before.before.before.before.before.before.args.place.header.depth
-inside c =
-    let k = c.before.before.before.before.before.before.requires in
-    let deep = c.before.before.before.before.if1.false in
-    let b = c.before.before.starts-of.ensures in
-    buddy_below k deep c.before.before.before.directory-index.ensures b (c.buddy-index.ensures _ _ b)
-
 pub returns-then-local_depth-eq0 : goal.returns-then-local_depth-eq0
 returns-then-local_depth-eq0 c = whole_directory c.requires c.if-local_depth-eq0.true
 
@@ -35,17 +27,23 @@ pub overflow_add-at : goal.overflow_add-at
 overflow_add-at c =
     let k = c.requires in
     let g = bounds k.header_read in
-    omega (arith, g.entries, c.pow2.ensures, inside c)
+    let b = c.starts_of-starts.ensures in
+    let low = buddy_below k c.if-local_depth-eq0.false c.directory_index-i.ensures b (c.buddy_index.ensures _ _ b) in
+    omega (arith, g.entries, c.pow2.ensures)
 
 pub offset_bounds-words-at : goal.offset_bounds-words-at
 offset_bounds-words-at c =
     let g = bounds c.requires.header_read in
-    omega (arith, g.entries, c.pow2.ensures, inside c)
+    let b = c.starts_of-starts.ensures in
+    let low = buddy_below c.requires c.if-local_depth-eq0.false c.directory_index-i.ensures b (c.buddy_index.ensures _ _ b) in
+    omega (arith, g.entries, c.pow2.ensures)
 
 pub bounds-words-at : goal.bounds-words-at
 bounds-words-at c =
     let g = bounds c.requires.header_read in
-    omega (arith, g.room, c.pow2.ensures, inside c.before)
+    let b = c.starts_of-starts.ensures in
+    let low = buddy_below c.requires c.if-local_depth-eq0.false c.directory_index-i.ensures b (c.buddy_index.ensures _ _ b) in
+    omega (arith, g.room, c.pow2.ensures)
 
 pub returns-then-local_depth_of-local_depth : goal.returns-then-local_depth_of-local_depth
 returns-then-local_depth_of-local_depth c =
@@ -69,4 +67,4 @@ returns c =
     rw (c.pair_of.ensures, c.segment_of.ensures) found
 
 pub pow2-requires : goal.pow2-requires
-pow2-requires c = omega (arith, (bounds c.requires.header_read) .depth_high)
+pow2-requires c = omega (arith, (bounds c.requires.header_read).depth_high)

@@ -22,18 +22,18 @@ double_entry-due-requires c =
 
 pub overflow_step-e : goal.overflow_step-e
 overflow_step-e c =
-    let b = bounds c.requires.0 in omega (arith, c.before)
+    let b = bounds c.requires.0 in omega arith
 
 pub loop-e-preserved : goal.loop-e-preserved
 loop-e-preserved c =
     let i = c.loop-e.invariant in
     let p = c.double_entry-due.ensures in (
-      omega (arith, c.before),
+      omega arith,
       omega (arith, p.count, i.1),
       executed_length p ∙ i.2,
       double_turn c.requires.0 _ _ _
           c.pow2-count.ensures c.loop-e.e _ _ _ _
-          (omega (arith, c.before)) i.3 p,
+          (omega arith) i.3 p,
     )
 
 pub pack_header-word-requires : goal.pack_header-word-requires
@@ -42,18 +42,18 @@ pack_header-word-requires c = let b = bounds c.requires.0 in (omega arith, omega
 pub store_word-requires : goal.store_word-requires
 store_word-requires c =
     let b = bounds c.requires.0 in
-    (omega (arith, c.before), omega (arith, c.before))
+    (omega arith, omega arith)
 
 pub shape_of-words : goal.shape_of-words
-shape_of-words c = executed_length c.Store-word.ensures ∙ c.loop-e.invariant.2
+shape_of-words c = executed_length c.store_word.ensures ∙ c.loop-e.invariant.2
 
 pub returns : goal.returns
 returns c =
     double_end c.requires.0 _ _ _
     c.pow2-count.ensures
     c.loop-e.e _ _ _ _ _
-    (omega (arith, c.before)) c.pack_header-word.ensures
-    c.loop-e.invariant.3 c.Store-word.ensures
+    (omega arith) c.pack_header-word.ensures
+    c.loop-e.invariant.3 c.store_word.ensures
 
 pub pow2-count-requires : goal.pow2-count-requires
 pow2-count-requires c = let b = bounds c.requires.0 in omega arith
@@ -62,7 +62,7 @@ pub overflow_mul-e-end : goal.overflow_mul-e-end
 overflow_mul-e-end c = let b = bounds c.requires.0 in omega arith
 
 pub loop-e-smaller : goal.loop-e-smaller
-loop-e-smaller c = omega (arith, c.before)
+loop-e-smaller c = omega arith
 
 pub overflow_add-header : goal.overflow_add-header
 overflow_add-header c = let b = bounds c.requires.0 in omega arith

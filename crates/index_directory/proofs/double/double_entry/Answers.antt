@@ -3,4 +3,4 @@ use borrow.Author.Rules.{rules}
 use Rattle.index_directory.proofs.double.double_entry.Goals as goal
 
 pub returns : goal.returns
-returns c = c.Store-word.ensures
+returns c = c.store_word.ensures

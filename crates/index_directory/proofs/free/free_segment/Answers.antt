@@ -10,5 +10,5 @@ note_named-requires c = (c.requires, refl, empty_set 64)
 
 pub returns : goal.returns
 returns c =
-    c.Free-in.ensures
+    c.free_in.ensures
     ∙ free_named _ c.note_named.ensures c.requires.segments_read

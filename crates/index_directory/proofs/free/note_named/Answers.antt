@@ -28,7 +28,7 @@ loop-i-preserved c =
     let d = c.requires.0 in
     let v = c.loop-i.invariant in (
       omega arith,
-      c.note_entry.auto.0 ∙ v.1,
+      c.note_entry.auto.set ∙ v.1,
       noted_entry c.args.words.now _ _
           c.loop-i.i v.2
           (rw (← entry_word _ _ d c.pow2-count.ensures, d.segments_read)

@@ -31,8 +31,8 @@ pub loop-t-preserved : goal.loop-t-preserved
 loop-t-preserved c =
     let i = c.loop-t.invariant in
     let t = c.loop-t.t in
-    let p = c.Store-word.ensures in (
-      omega (arith, c.before),
+    let p = c.store_word-due.ensures in (
+      omega arith,
       omega (arith, p.count, i.1),
       executed_length p ∙ i.2,
       after_turn (λ (t : ℕ). store (_ + t) _ ∷ []) t _ _ _ _ _ _ _ i.3 p,

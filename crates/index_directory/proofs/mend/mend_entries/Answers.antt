@@ -36,12 +36,12 @@ next_block-block-requires c =
 pub mend_entry-due-requires : goal.mend_entry-due-requires
 mend_entry-due-requires c =
     let b = bounds c.requires.0.0 in
-    (omega (arith, c.before), omega (arith, c.before))
+    (omega arith, omega arith)
 
 pub overflow_step-i : goal.overflow_step-i
 overflow_step-i c =
     let b = bounds c.requires.0.0 in omega
-    (arith, c.before)
+    (arith)
 
 pub loop-i-preserved : goal.loop-i-preserved
 loop-i-preserved c =
@@ -56,7 +56,7 @@ loop-i-preserved c =
     c.loop-i.block n
     c.loop-i-test.true i.3 i.4
     c.next_block-block.ensures in (
-      omega (arith, c.before),
+      omega arith,
       omega (arith, i.1, mend_count d _ _ 0 k c.loop-i.i _ _ _ _ n p),
       executed_length p ∙ i.2,
       f.passing,
@@ -84,4 +84,4 @@ pub bounds-words-at : goal.bounds-words-at
 bounds-words-at c = let b = bounds c.requires.0.0 in omega arith
 
 pub loop-i-smaller : goal.loop-i-smaller
-loop-i-smaller c = omega (arith, c.before)
+loop-i-smaller c = omega arith

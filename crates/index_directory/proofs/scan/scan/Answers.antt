@@ -31,7 +31,7 @@ pub loop-i-preserved : goal.loop-i-preserved
 loop-i-preserved c =
     let d = c.requires in
     let l = c.loop-i in (
-      omega (arith, c.before),
+      omega arith,
       scan_goes_on _ _ _ l.i l.block c.in-In.next l.agree c.in-In.still
           c.scan_entry.result
           l.invariant.1 c.in-In.is

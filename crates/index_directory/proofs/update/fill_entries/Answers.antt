@@ -25,9 +25,9 @@ loop-t-preserved c =
     let a = c.args in
     let t = c.loop-t.t in
     let i = c.loop-t.invariant in
-    let p = c.Store-word.ensures in
+    let p = c.store_word-due.ensures in
     let same : a.count - 1 - t ≡ a.count - suc t = omega arith in (
-      omega (arith, c.before),
+      omega arith,
       omega (arith, p.count, i.1),
       executed_length p ∙ i.2,
       after_turn (λ (t : ℕ). store (a.first + (a.count - suc t)) a.entry ∷ []) t _ _ _ _ _ _ _ i.3 (rw (← same) p),
@@ -43,7 +43,7 @@ returns c =
     rw e at c.loop-t.invariant.3
 
 pub overflow_step-t : goal.overflow_step-t
-overflow_step-t c = omega (arith, c.before)
+overflow_step-t c = omega arith
 
 pub loop-t-smaller : goal.loop-t-smaller
-loop-t-smaller c = omega (arith, c.before)
+loop-t-smaller c = omega arith

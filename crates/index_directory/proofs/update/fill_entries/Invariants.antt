@@ -17,7 +17,7 @@ invariant-loop-t l =
     (l.t ≤ l.count)
     × (l.due ≡ l.due-2 + l.t)
     × (length l.words ≡ length l.initial.words)
-    × Executed (each (λ (l.t : ℕ). store (l.first + (l.count - suc l.t)) l.entry ∷ []) l.t) l.allowance l.due-2 l.initial.words l.due l.words
+    × Executed (each (λ (i : ℕ). store (l.first + (l.count - suc i)) l.entry ∷ []) l.t) l.allowance l.due-2 l.initial.words l.due l.words
 
 abbrev pub decreases-loop-t : goal.decreases-loop-t
 decreases-loop-t l = l.count - l.t
