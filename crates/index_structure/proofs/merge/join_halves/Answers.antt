@@ -1,0 +1,28 @@
+-- `index_structure::merge::join_halves` meets its contract.
+use borrow.Author.Rules.{rules}
+use native.Mathlib.Omega.{arith}
+use Rattle.index_structure.proofs.Merges.{pair_fits, mergeable, entries_ready, merge_made}
+use Rattle.index_structure.proofs.merge.join_halves.Goals as goal
+
+pub merging_of-merging-requires : goal.merging_of-merging-requires
+merging_of-merging-requires c = pair_fits c.requires
+
+pub merge_slots-due-requires : goal.merge_slots-due-requires
+merge_slots-due-requires c = rw c.merging_of-merging.ensures (mergeable c.requires)
+
+pub join_entries-requires : goal.join_entries-requires
+join_entries-requires c =
+    let made = rw c.merging_of-merging.ensures at c.merge_slots-due.ensures in
+    entries_ready c.requires _ _ _ made
+
+pub returns : goal.returns
+returns c =
+    
+    let made =
+    rw c.merging_of-merging.ensures at
+    c.merge_slots-due.ensures in
+    merge_made c.requires _ _ _ _ _ made
+    c.join_entries.ensures
+
+pub overflow_sub-block : goal.overflow_sub-block
+overflow_sub-block c = omega (arith, (pair_fits c.requires).deep)
