@@ -1,13 +1,11 @@
 -- The tests in front of the calls with a key, from what was read of the array.
-use mathlib.Core.Path.{◌≡◌, sym, ◌∙◌}
+use mathlib.Core.Path.{◌≡◌, refl, sym, ◌∙◌}
 use mathlib.Core.Bool.{true, false}
 use mathlib.Core.List.{List, [], ◌∷◌}
 use mathlib.Core.Option.{Option, none, some}
 use Prim.Native.Nat.{ℕ, ◌+◌, ◌≤◌, ◌<◌}
 use lib.ListN.{length}
 use borrow.Author.Tests.{eq-eqb, ne_eqb}
-use denote.Enum.Declared
-use types.Run.{OneOf, miss}
 use Rattle.replies.specs.declared.Refusal.{Refusal}
 use Rattle.replies.specs.declared.Refusal.TheVariants.{NoStore, NoKey}
 use Rattle.replies.specs.Replies.{unless}
@@ -21,7 +19,6 @@ use Rattle.index_laws.proofs.Put.{passed, choice_found, choice_into, choice_full
 use Rattle.index_laws.proofs.Range.{hit_slot}
 use Rattle.index_segment.specs.declared.probe.Hit.{Hit}
 use Rattle.index_segment.specs.declared.probe.Hit.TheVariants.{At as HitAt, Absent}
-use Rattle.index_segment.specs.contracts.choice.Choice
 use Rattle.index_segment.specs.declared.choice.Choice.{Choice as CodeChoice}
 use Rattle.index_segment.specs.declared.choice.Choice.TheVariants.{Found, Into, Full}
 use Rattle.index_segment.specs.Answers.{hit_of, choice_of}
@@ -118,11 +115,11 @@ module _ {p : Place} {a : List ℕ} (k : KeyPlace p a) (r : CodeChoice) (e : cho
   pub chosen_inside : (j : ℕ) → r ≡ Found j → (j < 64) × (p.base + 128 ≤ length a)
   chosen_inside j q = (hit_slot a p.base p.key j (chosen_hit j q), (place_bounds k).whole)
 
-  pub not_chosen : OneOf (1 ∷ 2 ∷ []) (denote.Enum.Declared.tag_of Rattle.index_segment.specs.contracts.choice.Choice.the_type r) → hit a p.base p.key ≡ none
+  pub not_chosen : ((j : ℕ) → r ≡ Found j → ⊥) → hit a p.base p.key ≡ none
   not_chosen t = rw k.base_is at (misses r t (sym e))
     where
-      misses : (q : CodeChoice) → OneOf (1 ∷ 2 ∷ []) (denote.Enum.Declared.tag_of Rattle.index_segment.specs.contracts.choice.Choice.the_type q)
+      misses : (q : CodeChoice) → ((j : ℕ) → q ≡ Found j → ⊥)
           → key_choice a p.key ≡ choice_of q → hit a (key_segment a p.key) p.key ≡ none
-      misses (Found j) t e = absurd (miss (1 ∷ 2 ∷ []) 0 Prim.tt t)
+      misses (Found j) t e = absurd (t j refl)
       misses (Into j) t e = (choice_into a p.key j e).missing
       misses Full t e = (choice_full a p.key e).missing
