@@ -5,9 +5,6 @@ use mathlib.Core.List.{List, [], ◌∷◌, append-nil}
 use native.Mathlib.Omega.{arith}
 use lib.ListN.{length}
 use Rattle.stores.specs.Lists.{each}
-use denote.Enum.Declared
-use types.Run.{OneOf, miss}
-use Rattle.replies.specs.contracts.Reply
 use Rattle.replies.specs.declared.Answer.{Answer}
 use Rattle.replies.specs.declared.Refusal.{Refusal}
 use Rattle.replies.specs.declared.Reply.{Reply}
@@ -46,15 +43,15 @@ module _ (a : List ℕ) (year month number : ℕ) where
     line_found name pages e k = lines_found pages e ∙ rw k refl
 
     -- No line where the reply is another.
-    pub lines_none : OneOf (0 ∷ 2 ∷ 3 ∷ 4 ∷ []) (denote.Enum.Declared.tag_of Rattle.replies.specs.contracts.Reply.the_type reply)
+    pub lines_none : ((v : ℕ) → reply ≡ Value v → ⊥)
         → lines_in (job_turn a year month number) ≡ []
     unfolding jobs_in job_found text_of
     lines_none t = rw said (go reply t)
       where
-        go : (r : Reply) → OneOf (0 ∷ 2 ∷ 3 ∷ 4 ∷ []) (denote.Enum.Declared.tag_of Rattle.replies.specs.contracts.Reply.the_type r)
+        go : (r : Reply) → ((v : ℕ) → r ≡ Value v → ⊥)
             → lines_in (record { month = month; number = number; said = said_by r } ∷ []) ≡ []
         go Done t = refl
-        go (Value v) t = absurd (miss (0 ∷ 2 ∷ 3 ∷ 4 ∷ []) 1 Prim.tt t)
+        go (Value v) t = absurd (t v refl)
         go (Listed n f) t = refl
         go Absent t = refl
         go (RefusedReply r) t = refl
@@ -67,18 +64,18 @@ module _ (a : List ℕ) (year month number : ℕ) where
     counted_found pages n e k = (rw (said, e) refl, k ∙ ap length (sym (lines_found pages e)))
 
     -- Neither a value nor a refusal.
-    pub counted_none : OneOf (0 ∷ 2 ∷ 3 ∷ []) (denote.Enum.Declared.tag_of Rattle.replies.specs.contracts.Reply.the_type reply)
+    pub counted_none : ((v : ℕ) → reply ≡ Value v → ⊥) → ((r : Refusal) → reply ≡ RefusedReply r → ⊥)
         → CountedBy (Bytes 0) (job_turn a year month number)
     unfolding refused_in first_refusal jobs_in job_found text_of
-    counted_none t = rw said (go reply t)
+    counted_none t u = rw said (go reply t u)
       where
-        go : (r : Reply) → OneOf (0 ∷ 2 ∷ 3 ∷ []) (denote.Enum.Declared.tag_of Rattle.replies.specs.contracts.Reply.the_type r)
+        go : (r : Reply) → ((v : ℕ) → r ≡ Value v → ⊥) → ((f : Refusal) → r ≡ RefusedReply f → ⊥)
             → CountedBy (Bytes 0) (record { month = month; number = number; said = said_by r } ∷ [])
-        go Done t = (refl, refl)
-        go (Value v) t = absurd (miss (0 ∷ 2 ∷ 3 ∷ []) 1 Prim.tt t)
-        go (Listed n f) t = (refl, refl)
-        go Absent t = (refl, refl)
-        go (RefusedReply r) t = absurd (miss (0 ∷ 2 ∷ 3 ∷ []) 4 Prim.tt t)
+        go Done t u = (refl, refl)
+        go (Value v) t u = absurd (t v refl)
+        go (Listed n f) t u = (refl, refl)
+        go Absent t u = (refl, refl)
+        go (RefusedReply r) t u = absurd (u r refl)
 
     pub counted_refused : (r : Refusal) → reply ≡ RefusedReply r → CountedBy (Refused r) (job_turn a year month number)
     unfolding refused_in first_refusal

@@ -4,9 +4,6 @@ use mathlib.Core.Path.{◌≡◌, refl}
 use mathlib.Core.List.{[], ◌∷◌, ◌++◌, append-nil}
 use native.Mathlib.Omega.{arith}
 use lib.ListN.{length, length-append}
-use denote.Enum.Declared
-use types.Run.{OneOf, miss}
-use Rattle.replies.specs.contracts.Reply
 use Rattle.replies.specs.declared.Refusal.{Refusal}
 use Rattle.replies.specs.declared.Reply.{Reply}
 use Rattle.replies.specs.declared.Reply.TheVariants.{Done, Value, Listed, Absent, Refused}
@@ -29,24 +26,24 @@ length_reply Absent = omega arith
 length_reply (Refused r) = length_refusal r
 
 -- A reply that is neither absent nor a refusal is written as 0.
-pub reply_done : (r : Reply) → OneOf (0 ∷ 1 ∷ 2 ∷ []) (denote.Enum.Declared.tag_of Rattle.replies.specs.contracts.Reply.the_type r)
+pub reply_done : (r : Reply) → (r ≡ Absent → ⊥) → ((f : Refusal) → r ≡ Refused f → ⊥)
     → reply_text (said_by r) ≡ 48 ∷ []
-reply_done Done t = refl
-reply_done (Value v) t = refl
-reply_done (Listed n f) t = refl
-reply_done Absent t = absurd (miss (0 ∷ 1 ∷ 2 ∷ []) 3 Prim.tt t)
-reply_done (Refused r) t = absurd (miss (0 ∷ 1 ∷ 2 ∷ []) 4 Prim.tt t)
+reply_done Done t u = refl
+reply_done (Value v) t u = refl
+reply_done (Listed n f) t u = refl
+reply_done Absent t u = absurd (t refl)
+reply_done (Refused r) t u = absurd (u r refl)
 
 -- A line ends with its value, where the reply has one, and else with the line feed alone.
 pub end_value : (v : ℕ) → end_text (said_by (Value v)) ≡ (tab ∷ decimal v) ++ (line_feed ∷ [])
 unfolding values_text
 end_value v = rw (append-nil (decimal v))
 
-pub end_plain : (r : Reply) → OneOf (0 ∷ 2 ∷ 3 ∷ 4 ∷ []) (denote.Enum.Declared.tag_of Rattle.replies.specs.contracts.Reply.the_type r)
+pub end_plain : (r : Reply) → ((v : ℕ) → r ≡ Value v → ⊥)
     → end_text (said_by r) ≡ line_feed ∷ []
 unfolding values_text
 end_plain Done t = refl
-end_plain (Value v) t = absurd (miss (0 ∷ 2 ∷ 3 ∷ 4 ∷ []) 1 Prim.tt t)
+end_plain (Value v) t = absurd (t v refl)
 end_plain (Listed n f) t = refl
 end_plain Absent t = refl
 end_plain (Refused r) t = refl

@@ -3,9 +3,7 @@ use Prim.Native.Nat.{ℕ}
 use mathlib.Core.Path.{◌≡◌, refl, ap, ◌∙◌}
 use mathlib.Core.List.{List, [], ◌∷◌}
 use lib.ListN.{length}
-use denote.Enum.Declared
-use types.Run.{OneOf, miss}
-use Rattle.replies.specs.contracts.Reply
+use Rattle.replies.specs.declared.Following.{Following}
 use Rattle.replies.specs.declared.Reply.{Reply}
 use Rattle.replies.specs.declared.Reply.TheVariants.{Done, Value, Listed, Absent, Refused}
 use Rattle.stores.specs.Plan.{Outcome}
@@ -34,10 +32,10 @@ module _ {answer : Answer} {r : PageIndexReply} (k : Tells (said_by answer.reply
   told_block {m = m} h e = record { writing = told_wrote h; next = e ∙ ap (λ (said : Said). next_said said m) h.reply }
 
 -- A reply that lists no block leaves the word at `next`.
-pub next_kept : (reply : Reply) (before : ℕ) → OneOf (0 ∷ 1 ∷ 3 ∷ 4 ∷ []) (denote.Enum.Declared.tag_of Rattle.replies.specs.contracts.Reply.the_type reply)
+pub next_kept : (reply : Reply) (before : ℕ) → ((n : ℕ) (f : Following) → reply ≡ Listed n f → ⊥)
     → before ≡ next_said (said_by reply) before
 next_kept Done before t = refl
 next_kept (Value v) before t = refl
-next_kept (Listed n f) before t = absurd (miss (0 ∷ 1 ∷ 3 ∷ 4 ∷ []) 2 Prim.tt t)
+next_kept (Listed n f) before t = absurd (t n f refl)
 next_kept Absent before t = refl
 next_kept (Refused r) before t = refl
