@@ -1,10 +1,16 @@
 # What tests/edits and tests/faults share: a copy of the crates, and the replacements of an edit.
 import shutil
+from pathlib import Path
 
 
-def copied(source, to):
-    """The crates of the repository at `source`, in a folder of their own."""
-    shutil.copytree(source / "crates", to / "crates")
+def copied(source, to, *parts):
+    """The crates of the repository at `source`, in a folder of their own: these parts of each; where none is named, all but what checks
+    left there."""
+    def left_out(folder, names):
+        of_crate = Path(folder).parent == source / "crates"
+        return [name for name in names if of_crate and (name not in parts if parts else name == "out")]
+
+    shutil.copytree(source / "crates", to / "crates", ignore=left_out)
     shutil.copy(source / "crates.txt", to)
 
 
