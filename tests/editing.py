@@ -3,12 +3,10 @@ import shutil
 from pathlib import Path
 
 
-def copied(source, to, *parts):
-    """The crates of the repository at `source`, in a folder of their own: these parts of each; where none is named, all but what checks
-    left there."""
-    def left_out(folder, names):
-        of_crate = Path(folder).parent == source / "crates"
-        return [name for name in names if of_crate and (name not in parts if parts else name == "out")]
+def copied(source, to):
+    """The crates of the repository at `source`, in a folder of their own, without what checks left there."""
+    def left_out(folder, _):
+        return ["out"] if Path(folder).parent == source / "crates" else []
 
     shutil.copytree(source / "crates", to / "crates", ignore=left_out)
     shutil.copy(source / "crates.txt", to)

@@ -1,6 +1,5 @@
 # The exported functions of the library, read from their sources: the promise of each stands here a second time, so that none
 # can be changed, weakened or left out unseen. A proof shows that a function keeps its promise, whatever it is.
-from source import Library
 from tokens import NotUnderstood
 
 LIBRARY = "page_index"
@@ -27,18 +26,18 @@ def promise(clauses):
     return "; ".join(f"{kind} {{ {text} }}" for kind, text in clauses) or "nothing"
 
 
-def exported_by(library):
-    """The exported functions, by their names."""
-    found = [function for function in library.functions.values() if function.is_exported]
+def exported_of(functions):
+    """Those of the library's functions that are exported, by their names."""
+    found = [function for function in functions.values() if function.is_exported]
     names = [function.path.rpartition("::")[2] for function in found]
     if len(set(names)) != len(names) or any(not function.path.startswith(f"{LIBRARY}::") for function in found):
         raise NotUnderstood(f"exported functions that are not understood: {', '.join(function.path for function in found)}")
     return dict(zip(names, found))
 
 
-def exported(library):
+def exported(functions):
     """The exported functions by their paths, each with its parameters; each promises what it must."""
-    found = exported_by(library)
+    found = exported_of(functions)
     if found.keys() != PROMISES.keys():
         raise NotUnderstood(f"exported, or to be exported: {', '.join(sorted(found.keys() ^ PROMISES.keys()))}")
     for name, function in found.items():

@@ -1,269 +1,98 @@
-# The form of the stores, read from the sources: what `check` says at its head. A function that is lent the index array to be written
-# is read once for what it is handed: each value has a kind, and of the values that hold a count it is known which hold the one of
-# now. Whatever is not understood is refused.
+# The form of the stores, read from the MIR: what `check` says at its head. A function that is lent the index array to be written
+# is read once for what it is handed: each local has a kind, and of the locals that hold a count it is known which hold the one
+# of now. Whatever is not understood is refused.
 from dataclasses import replace
 
-from kinds import (ALLOWANCE, ANSWER, ARRAY, CALL, COUNT, COUNTING, CUT, ENDED, LEFT, MIXED, OWN, PLAIN, READABLE, UNBEGUN, WITHIN, ZERO,
-                   Answered, State, Tagged, has_count, is_harmless, joined)
-from source import Library
+from kinds import (ALLOWANCE, ANSWER, ARRAY, CALL, COUNT, COUNTING, CUT, ENDED, LEFT, MIXED, OWN, PLAIN, POINTER, READABLE, UNBEGUN,
+                   WITHIN, ZERO, Answered, State, Tagged, has_count, is_harmless, joined)
+from mir import arms, is_words, lines, listed, named_type, shown, statements, variants
 from tokens import NotUnderstood
-from tree import inside
 
 STORE = "stores::store_word"
 END = "index::answer::after_stores"
 # Calls itself behind a split, with the allowance that is left.
 RESUMES = "index::put"
 PERFORM = "index::perform"
-WORDS, WRITABLE_WORDS, COUNTED = "&[u64]", "&mut [u64]", "u32"
 
 # The functions that are read by their whole form. Whoever changes one reads it again: that the allowance decides here about
 # this one store alone, and there about the reply alone.
 PINNED = {
-    STORE: "(words: &mut [u64], at: usize, value: u64, allowance: u32, due: u32) -> u32 "
-           "{ if due < allowance { words [ at ] = value ; return due + 1 ; } due + 1 }",
-    END: "(reply: Reply, allowance: u32, due: u32) -> Answer { if allowance < due "
-         "{ return Answer { reply : Reply :: Refused ( Refusal :: CutOff ) , stores : allowance } ; } Answer { reply , stores : due } }",
+    # words, at, value, allowance, due
+    STORE: """\
+_6 = (lt unsigned) _5 _4
+if _6
+    _7 = (mul unsigned) _2 8
+    _8 = offset _1.0 _7
+    _8.* = _3
+    _0 = (add unsigned) _5 1
+    return
+else
+    skip
+_0 = (add unsigned) _5 1
+return
+""",
+    # reply, allowance, due
+    END: """\
+_4 = (lt unsigned) _2 _3
+if _4
+    _5 = {6}
+    _6 = {4, _5}
+    _0 = {_6, _2}
+    return
+else
+    skip
+_0 = {_1, _3}
+return
+""",
 }
-
 
 class Reading:
     """One function read with what it is handed: a kind for each parameter."""
 
-    def __init__(self, check, function, handed):
-        self.check, self.library, self.function, self.name = check, check.library, function, function.path
+    def __init__(self, check, name, handed):
+        self.check, self.name, self.function = check, name, check.functions[name]
         self.answers = []  # of the ways that end here: COUNT, ANSWER or Tagged
-        self.frames = []  # of the loops around an expression, the inmost last: label, the ways that leave it, and that turn
-        self.names = {name: -1 - at for at, (name, _) in enumerate(function.parameters)}
-        self.in_memory = {local for name, local in self.names.items() if name in self.lent_names()}
-        kinds = {-1 - at: kind for at, kind in enumerate(handed)}
+        self.frames = []  # of the blocks around a statement, the inmost last: the ways that leave each; None for a loop
+        stands = COUNTING if COUNT in handed else UNBEGUN
+        kinds = dict(enumerate(handed, start=1))
         holders = frozenset(local for local, kind in kinds.items() if kind == COUNT)
-        state = State(COUNTING if COUNT in handed else UNBEGUN, kinds, holders)
-        for local in self.in_memory - {local for local, kind in kinds.items() if kind == ARRAY}:
-            self.harmless(state, kinds[local], "is kept where a pointer reaches it")
-        state, answer = self.value(state, function.body)
-        if state is not None:
-            self.returned(state, answer)
+        if self.run(State(stands, kinds, holders), self.function.body) is not None:
+            self.fail("ends without an answer")
 
     def fail(self, what):
         raise NotUnderstood(f"{self.name}: {what}")
 
-    def harmless(self, state, kind, what):
-        """Asks that a value decides nothing about stores; where they have ended, that no store can be made through it."""
-        if not is_harmless(kind) and (state.stands != ENDED or kind in (ARRAY, MIXED)):
-            self.fail(f"{kind} {what}")
+    # Statements. Each takes a state and answers the one behind it, or None where no way comes there.
 
-    # Locals.
-
-    def lent_names(self):
-        """The names under which something is lent: what a pointer can reach may change unseen."""
-        return {self.root(node.parts[1]) for node in inside(self.function.body) if node.kind == "borrow"}
-
-    def root(self, place):
-        """The name at which a place begins, or None where it begins with none."""
-        while place.kind in ("index", "field", "unary"):
-            place = place.parts[1 if place.kind == "unary" else 0]
-        return place.parts[0][0] if place.kind == "path" and len(place.parts[0]) == 1 else None
-
-    def named(self, state, name, local, kind, holds=False):
-        """A name gets a value from here on."""
-        self.names[name] = local
-        if name in self.lent_names():
-            self.in_memory.add(local)
-        return self.noted(state, local, kind, holds)
-
-    def noted(self, state, local, kind, holds=False):
-        """A local gets a value. Where a pointer can reach it, no count or allowance is kept."""
-        if local in self.in_memory and kind not in (ARRAY, READABLE):
-            self.harmless(state, kind, "is kept where a pointer reaches it")
-            return state.having(local, PLAIN)
-        return state.having(local, kind, holds)
-
-    def made(self, state, number, kind, holds=False):
-        return self.noted(state, number, kind, holds), number
-
-    def copied(self, state, to, local):
-        kind = state.kind(local)
-        return self.noted(state, to, kind, self.is_begun(state, kind))
-
-    def is_begun(self, state, kind):
-        """Whether a value of this kind holds the count as it is now, or a 0 with which one can begin."""
-        return has_count(kind) and state.stands != ENDED or kind == ZERO and state.stands == UNBEGUN
-
-    # Expressions. Each takes a state and answers the one behind it, and the local that has the value; None twice where no way
-    # comes behind it.
-
-    def value(self, state, node):
-        read = getattr(self, f"of_{node.kind}", None)
-        if state is None or read is None:
-            self.fail("code that no way comes to" if read else f"not understood: a {node.kind}")
-        return read(state, node.number, *node.parts)
-
-    def values(self, state, nodes):
-        locals_ = []
-        for node in nodes:
-            state, local = self.value(state, node)
+    def run(self, state, body):
+        for statement in body:
             if state is None:
-                self.fail("a way that ends within a value")
-            locals_.append(local)
-        return state, locals_
-
-    def plain(self, state, number, nodes, what):
-        """A value that is made of others."""
-        state, locals_ = self.values(state, nodes)
-        for local in locals_:
-            self.harmless(state, state.kind(local), what)
-        return self.made(state, number, PLAIN)
-
-    def of_number(self, state, number, text):
-        return self.made(state, number, *((ZERO, state.stands == UNBEGUN) if text in ("0", "0u32") else (PLAIN,)))
-
-    def of_path(self, state, number, path):
-        if len(path) == 1 and path[0] in self.names:
-            return state, self.names[path[0]]
-        if variant := self.variant(path):
-            return self.made(state, number, Tagged(variant, None))
-        if not path[-1].isupper():
-            self.fail(f"not understood: {'::'.join(path)}")
-        return self.made(state, number, PLAIN)
-
-    def of_field(self, state, number, base, _):
-        return self.plain(state, number, [base], "is taken apart")
-
-    def of_tuple(self, state, number, items):
-        return self.plain(state, number, items, "is put into a value")
-
-    def of_array(self, state, number, items):
-        state, _ = self.of_tuple(state, number, items)
-        return self.made(state, number, OWN)
-
-    def of_cast(self, state, number, base, _):
-        return self.plain(state, number, [base], "is computed with")
-
-    def of_unary(self, state, number, sign, operand):
-        return self.plain(state, number, [operand], "is taken apart" if sign == "*" else "is computed with")
-
-    def of_index(self, state, number, base, index):
-        state, (of, at) = self.values(state, [base, index])
-        if state.kind(of) != ARRAY:
-            self.harmless(state, state.kind(of), "is taken apart")
-        self.harmless(state, state.kind(at), "is an address")
-        return self.made(state, number, PLAIN)
-
-    def of_method(self, state, number, base, name, arguments):
-        if name != "len" or arguments:
-            return self.plain(state, number, [base, *arguments], f"is handed to the method {name}")
-        state, local = self.value(state, base)
-        if state.kind(local) != ARRAY:
-            self.harmless(state, state.kind(local), "is taken apart")
-        return self.made(state, number, PLAIN)
-
-    def of_borrow(self, state, number, is_mutable, place):
-        is_array = state.kind(self.names.get(self.root(place))) == ARRAY
-        is_part = place.kind == "index" and place.parts[1].kind == "range"
-        operands = [place.parts[0], *place.parts[1].parts] if is_part else [place]
-        if not is_array:
-            state, _ = self.plain(state, number, operands, "is lent")
-            return self.made(state, number, OWN)
-        if not is_part or operands[0].kind != "path":
-            self.fail("a pointer into the array, or to where it is kept")
-        state, (_, *ends) = self.values(state, operands)
-        for end in ends:
-            self.harmless(state, state.kind(end), "is an address")
-        return self.made(state, number, ARRAY if is_mutable else READABLE)
-
-    def of_binary(self, state, number, sign, left, right):
-        if sign in ("&&", "||"):
-            first, _ = self.plain(state, left.number, [left], "decides which way is taken")
-            second, _ = self.plain(first, right.number, [right], "decides which way is taken")
-            return self.made(self.meet(first, second), number, PLAIN)
-        state, locals_ = self.values(state, [left, right])
-        kinds = [state.kind(local) for local in locals_]
-        if self.name == RESUMES and kinds == [ALLOWANCE, COUNT]:
-            if sign == "<" and state.stands == COUNTING:
-                return self.made(state, number, CUT)
-            if sign == "-" and state.stands == WITHIN:
-                return self.made(state, number, LEFT)
-        for kind in kinds:
-            self.harmless(state, kind, "is computed with")
-        return self.made(state, number, PLAIN)
-
-    # Values of structs and enums.
-
-    def variant(self, path):
-        """The variant of an enum that a path means, or None."""
-        enum, _, name = (self.library.meaning(self.function.module, path) or "").rpartition("::")
-        return f"{enum}::{name}" if name in self.library.enums.get(enum, ()) else None
-
-    def of_struct(self, state, number, path, fields):
-        state, locals_ = self.values(state, [value for _, value in fields])
-        return self.put_together(state, number, self.variant(path), {name: local for (name, _), local in zip(fields, locals_)})
-
-    def put_together(self, state, number, variant, fields):
-        """A struct, or a variant of an enum: the count may stand in a variant alone."""
-        counts = [name for name, local in fields.items() if state.kind(local) == COUNT]
-        for name, local in fields.items():
-            if name not in counts:
-                self.harmless(state, state.kind(local), "is put into a value")
-        if not counts or state.stands == ENDED:
-            return self.made(state, number, OWN if variant is None else Tagged(variant, None))
-        if variant is None or len(counts) > 1:
-            self.fail("the count is put into a value")
-        return self.made(state, number, Tagged(variant, counts[0]), holds=True)
-
-    # Patterns.
-
-    def fitting(self, state, local, pattern):
-        """The state in which a value fits a pattern; the pattern's names are known from here on."""
-        kind = state.kind(local)
-        if pattern.kind == "bound":
-            return self.named(state, pattern.parts[0], pattern.number, kind, self.is_begun(state, kind))
-        if pattern.kind == "any":
-            self.harmless(state, kind, "is passed over")
-            return state
-        path, fields = pattern.parts
-        variant = self.variant(path)
-        if isinstance(kind, Answered):
-            if variant not in kind.counts:
-                self.fail("a variant that the call does not answer")
-            if kind.counts[variant] is None:
-                state = replace(state, stands=UNBEGUN).having(local, PLAIN)
-        elif kind != CALL:
-            self.harmless(state, kind, "decides which way is taken")
-        for name, inner in fields:
-            state = self.part(state, inner, self.kind_of_field(kind, variant, name))
+                self.fail("statements that no way comes to")
+            state = self.step(state, statement)
         return state
 
-    def part(self, state, pattern, kind):
-        """A field of a value fits a pattern."""
-        match pattern.kind:
-            case "any":
+    def step(self, state, statement):
+        match statement:
+            case "skip":
                 return state
-            case "bound":
-                return self.named(state, pattern.parts[0], pattern.number, kind, kind == COUNT)
-        self.harmless(state, kind, "is taken apart")
-        for _, inner in pattern.parts[1]:
-            state = self.part(state, inner, PLAIN)
-        return state
-
-    def kind_of_field(self, kind, variant, name):
-        if isinstance(kind, Answered):
-            return COUNT if kind.counts[variant] == name else PLAIN
-        if kind == CALL and variant:
-            enum, _, own = variant.rpartition("::")
-            # The field of 32 bits is the allowance.
-            return ALLOWANCE if dict(self.library.enums[enum][own])[name] == COUNTED else PLAIN
-        return PLAIN
-
-    def not_fitting(self, state, local, pattern):
-        """The state in which a value does not fit a pattern."""
-        kind = state.kind(local)
-        if not isinstance(kind, Answered):
-            return state
-        if any(kind.counts[other] is not None for other in kind.counts if other != self.variant(pattern.parts[0])):
-            self.fail("a variant with the count is passed over")
-        return replace(state, stands=UNBEGUN).having(local, PLAIN)
-
-    # Ways.
+            case "return":
+                return self.returned(state)
+            case ["exit", outward]:
+                self.frame(int(outward)).append(state)
+                return None
+            case ["assign", place, value]:
+                return self.assigned(state, place, value)
+            case ["call", ["function", name], operands, place]:
+                return self.called(state, name, listed(operands), place)
+            case ["cond", condition, yes, no]:
+                return self.branched(state, condition, statements(yes), statements(no))
+            case ["switch", value, cases]:
+                return self.switched(state, value, arms(cases))
+            case ["block", body]:
+                return self.blocked(state, statements(body))
+            case ["loop", body]:
+                return self.looped(state, statements(body))
+        self.fail(f"not understood: {shown(statement)[:80]}")
 
     def meet(self, one, other):
         """The state where two ways meet; None is a way that does not come there."""
@@ -274,195 +103,223 @@ class Reading:
             self.fail("the stores have ended on one of two ways that meet")
         return met
 
-    def met(self, number, ways):
-        """Ways that meet with a value each."""
-        behind = None
-        for state, local in ways:
-            if state is not None:
-                behind = self.meet(behind, self.copied(state, number, local))
-        return (behind, number) if behind else (None, None)
+    def frame(self, outward):
+        """The ways that leave the block so far outward."""
+        if outward >= len(self.frames) or self.frames[-1 - outward] is None:
+            self.fail("an exit that is not understood")
+        return self.frames[-1 - outward]
 
-    def way(self, state, local, pattern, node):
-        """A way that is taken where a value fits a pattern."""
-        outer, self.names = self.names, dict(self.names)
-        found = self.value(self.fitting(state, local, pattern), node)
-        self.names = outer
-        return found
+    def blocked(self, state, body):
+        """A block: behind it come its end and the exits from it."""
+        self.frames.append([])
+        behind = self.run(state, body)
+        for way in self.frames.pop():
+            behind = self.meet(behind, way)
+        return behind
 
-    def of_if(self, state, number, pattern, condition, yes, no):
-        state, local = self.value(state, condition)
-        other = state
-        if pattern is not None:
-            ways = [self.way(state, local, pattern, yes)]
-            other = self.not_fitting(state, local, pattern)
-        elif state.kind(local) == CUT:
+    def looped(self, state, body):
+        """A loop, read again until nothing new is learnt about where it begins. Only an exit from a block around it leaves it."""
+        while True:
+            self.frames.append(None)
+            again = self.meet(state, self.run(state, body))
+            self.frames.pop()
+            if again == state:
+                return None
+            state = again
+
+    def branched(self, state, condition, yes, no):
+        kind = self.operand(state, condition)
+        if kind == CUT:
             # Behind a split: no store follows where it is cut.
-            ways = [self.value(replace(state, stands=ENDED), yes)]
-            other = replace(state, stands=WITHIN)
-        else:
-            self.harmless(state, state.kind(local), "decides which way is taken")
-            ways = [self.value(state, yes)]
-        ways.append(self.value(other, no) if no else (other, number))
-        return self.met(number, ways)
+            return self.meet(self.run(replace(state, stands=ENDED), yes), self.run(replace(state, stands=WITHIN), no))
+        self.harmless(state, kind, "decides which way is taken")
+        return self.meet(self.run(state, yes), self.run(state, no))
 
-    def of_match(self, state, number, value, arms):
-        state, local = self.value(state, value)
-        return self.met(number, [self.way(state, local, pattern, node) for pattern, node in arms])
-
-    def of_block(self, state, number, statements):
-        outer, self.names = self.names, dict(self.names)
-        local = None
-        for statement in statements:
-            if state is None:
-                self.fail("statements that no way comes to")
-            if statement.kind == "let":
-                state = self.let(state, *statement.parts)
-            else:
-                state, local = self.value(state, statement.parts[0])
-                local = local if statement.kind == "answered" else None
-        self.names = outer
-        if state is None or local is not None:
-            return state, local
-        return self.made(state, number, PLAIN)
-
-    def let(self, state, pattern, value, otherwise):
-        state, local = self.value(state, value)
-        if state is None:
-            return None
-        if otherwise is not None and self.value(self.not_fitting(state, local, pattern), otherwise)[0] is not None:
-            self.fail("a way goes on where a value does not fit")
-        return self.fitting(state, local, pattern)
-
-    def of_return(self, state, number, value):
-        state, local = self.value(state, value) if value else (state, number)
-        if state is not None:
-            self.returned(state, local)
-        return None, None
-
-    def returned(self, state, local):
+    def switched(self, state, value, cases):
+        local, projections = self.place(value[1])
         kind = state.kind(local)
-        if kind in (ARRAY, MIXED):
-            self.fail(f"{kind} is answered")
+        if not isinstance(kind, Answered):
+            self.harmless(state, self.operand(state, value), "decides which way is taken")
+        behind = None
+        for numbers, body in cases:
+            way = state
+            if isinstance(kind, Answered):
+                if len(numbers) != 1 or numbers[0] not in kind.counts:
+                    self.fail("a variant that the call does not answer")
+                if kind.counts[numbers[0]] is None:
+                    way = replace(state, stands=UNBEGUN).having(local, PLAIN)
+            behind = self.meet(behind, self.run(way, body))
+        return behind
+
+    def returned(self, state):
+        kind = state.kind(0)
         if state.stands == ENDED:
             self.answers.append(ANSWER)
-        elif local in state.holders and (kind != ZERO or self.function.answer == COUNTED):
+        elif 0 in state.holders:
             self.answers.append(COUNT if kind == ZERO else kind)
         elif state.stands == UNBEGUN:
             self.answers.append(Tagged(kind.variant, None) if isinstance(kind, Tagged) else ANSWER)
         else:
             self.fail("the count of due stores is dropped")
+        return None
 
-    # Loops.
+    # Values.
 
-    def turns(self, state, number, label, turn):
-        """A loop, read again until nothing new is learnt about where it begins. A turn answers where it ends, and where the loop does."""
-        while True:
-            frame = (label, [], [])
-            self.frames.append(frame)
-            end, behind = turn(state)
-            self.frames.pop()
-            again = state
-            for way in (end, *frame[2]):
-                again = self.meet(again, way)
-            if again == state:
-                break
-            state = again
-        for way in frame[1]:
-            behind = self.meet(behind, way)
-        return self.made(behind, number, PLAIN) if behind else (None, None)
+    def place(self, term):
+        return int(term[1]), [(p if isinstance(p, str) else p[0], p[1:]) for p in listed(term[2])]
 
-    def of_for(self, state, number, label, pattern, values, block):
-        if values.kind != "range" or pattern.kind not in ("bound", "any"):
-            self.fail("not understood: a loop that does not count")
-        state, _ = self.plain(state, values.number, values.parts, "decides how often a loop turns")
+    def harmless(self, state, kind, what):
+        """Asks that a value decides nothing about stores; where they have ended, that no store can be made through it."""
+        if not is_harmless(kind) and (state.stands != ENDED or kind in (ARRAY, POINTER, MIXED)):
+            self.fail(f"{kind} {what}")
 
-        def turn(begun):
-            return self.way(begun, values.number, pattern, block)[0], begun
+    def operand(self, state, term):
+        match term:
+            case "opd_unit" | "opd_true" | "opd_false":
+                return PLAIN
+            case ["int", "w32", "0"]:
+                return ZERO
+            case ["int", _, _]:
+                return PLAIN
+            case ["copy", place]:
+                return self.read(state, *self.place(place))
+        self.fail(f"not understood: {shown(term)}")
 
-        return self.turns(state, number, label, turn)
+    def read(self, state, local, projections):
+        """The kind of what stands at a place."""
+        kind = state.kind(local)
+        if not projections:
+            return kind
+        if kind in (ARRAY, READABLE, OWN) and projections[0][0] == "field":
+            pointer = OWN if kind == OWN else POINTER
+            return self.behind_pointer(pointer if projections[0][1] == ["0"] else PLAIN, projections[1:])
+        if kind in (POINTER, OWN):
+            return self.behind_pointer(kind, projections)
+        if kind == CALL and [p[0] for p in projections] == ["variant", "field"]:
+            (_, [variant]), (_, [position]) = projections
+            return ALLOWANCE if self.is_allowance(local, int(variant), int(position)) else PLAIN
+        if isinstance(kind, Answered) and [p[0] for p in projections] == ["variant", "field"]:
+            (_, [variant]), (_, [position]) = projections
+            return COUNT if kind.counts.get(int(variant)) == int(position) else PLAIN
+        self.harmless(state, kind, "is taken apart")
+        return PLAIN
 
-    def of_while(self, state, number, label, condition, block):
-        def turn(begun):
-            tested, _ = self.plain(begun, condition.number, [condition], "decides how often a loop turns")
-            return self.value(tested, block)[0], tested
+    def is_allowance(self, call, variant, position):
+        """Whether a field of a call given as data is the allowance, the one of 32 bits. Field 0 is the variant's number."""
+        fields = variants(self.function.declared[named_type(self.function.types[call])])[variant]
+        return position > 0 and fields[position - 1] == ["ty_int", "w32"]
 
-        return self.turns(state, number, label, turn)
+    def behind_pointer(self, kind, projections):
+        if not projections:
+            return kind
+        if kind != PLAIN and [p[0] for p in projections] == ["deref"]:
+            return PLAIN
+        self.fail("a place that is not understood")
 
-    def of_loop(self, state, number, label, block):
-        return self.turns(state, number, label, lambda begun: (self.value(begun, block)[0], None))
+    def value(self, state, value, local_type):
+        """The kind of a value that is computed."""
+        match value:
+            case ["rv_opd", operand]:
+                return self.operand(state, operand)
+            case ["repeat", operand, _]:
+                self.harmless(state, self.operand(state, operand), "is repeated")
+                return PLAIN
+            case ["addr_of", place]:
+                local, projections = self.place(place)
+                if projections and projections[-1][0] == "deref":
+                    return self.read(state, local, projections[:-1])
+                if local not in self.function.in_memory:
+                    self.fail("a pointer to a local that has no place")
+                return OWN
+            case ["aggregate", operands]:
+                return self.aggregate(state, listed(operands), local_type)
+            case ["op1" | "op2", operation, *operands]:
+                return self.computed(state, operation, [self.operand(state, operand) for operand in operands])
+        self.fail(f"not understood: {shown(value)[:80]}")
 
-    def of_break(self, state, _, label, place=1):
-        found = [frame for frame in self.frames if label in (None, frame[0])]
-        if not found:
-            self.fail("a way out that is not understood")
-        found[-1][place].append(state)
-        return None, None
+    def aggregate(self, state, operands, local_type):
+        kinds = [self.operand(state, operand) for operand in operands]
+        if kinds and kinds[0] in (POINTER, OWN) and len(kinds) == 2:
+            if kinds[0] == OWN:
+                return OWN
+            if is_words(local_type, "mut"):
+                return ARRAY
+            if is_words(local_type, "imm"):
+                return READABLE
+        variant = int(operands[0][2]) if operands and operands[0][:2] == ["int", "w8"] else None
+        counts = [at for at, kind in enumerate(kinds) if kind == COUNT]
+        others = [kind for kind in kinds if kind != COUNT]
+        for kind in others:
+            self.harmless(state, kind, "is put into a value")
+        if not counts or state.stands == ENDED:
+            return PLAIN if variant is None else Tagged(variant, None)
+        if variant is None or len(counts) > 1:
+            self.fail("the count is put into a value")
+        return Tagged(variant, counts[0])
 
-    def of_continue(self, state, number, label):
-        return self.of_break(state, number, label, place=2)
+    def computed(self, state, operation, kinds):
+        if operation == "offset" and kinds[0] in (POINTER, OWN):
+            self.harmless(state, kinds[1], "is an address")
+            return kinds[0]
+        if self.name == RESUMES and kinds == [ALLOWANCE, COUNT]:
+            if operation == ["lt", "unsigned"] and state.stands == COUNTING:
+                return CUT
+            if operation == ["sub", "unsigned"] and state.stands == WITHIN:
+                return LEFT
+        for kind in kinds:
+            self.harmless(state, kind, "is computed with")
+        return PLAIN
 
-    # Assignments.
+    def assigned(self, state, place, value):
+        local, projections = self.place(place)
+        if any(p[0] == "deref" for p in projections):
+            if state.kind(local) != OWN:
+                self.fail(f"a word is assigned outside {STORE}")
+            self.harmless(state, self.value(state, value, None), "is stored in own memory")
+            return state
+        kind = self.value(state, value, self.function.types[local])
+        if projections:
+            self.harmless(state, kind, "is put into a value")
+            self.harmless(state, state.kind(local), "is changed")
+            return state
+        holds = has_count(kind) and state.stands != ENDED or kind == ZERO and state.stands == UNBEGUN
+        return self.noted(state, local, kind, holds)
 
-    def of_assign(self, state, number, sign, place, value):
-        state, (local,) = self.values(state, [value])
-        target = self.names.get(self.root(place))
-        if target is None:
-            self.fail("an assignment to a place that is not understood")
-        if place.kind == "path":
-            if sign == "=":
-                return self.made(self.copied(state, target, local), number, PLAIN)
-            for kind in (state.kind(target), state.kind(local)):
-                self.harmless(state, kind, "is computed with")
-            return self.made(self.noted(state, target, PLAIN), number, PLAIN)
-        if state.kind(target) != OWN:
-            self.fail(f"a word is assigned outside {STORE}")
-        self.harmless(state, state.kind(local), "is put into a value")
-        return self.plain(state, number, [place], "is changed")
+    def noted(self, state, local, kind, holds=False):
+        """A local gets a value. What a pointer can reach may change unseen, so no count or allowance is kept there."""
+        if local in self.function.in_memory:
+            self.harmless(state, kind, "is kept where a pointer reaches it")
+            return state.having(local, PLAIN)
+        return state.having(local, kind, holds)
 
     # Calls.
 
-    def of_call(self, state, number, callee, arguments):
-        path = callee.parts[0] if callee.kind == "path" else None
-        if path is None or path[0] in self.names:
-            self.fail("not understood: a value is called")
-        state, locals_ = self.values(state, arguments)
-        if variant := self.variant(path):
-            return self.put_together(state, number, variant, {str(at): local for at, local in enumerate(locals_)})
-        name = self.library.meaning(self.function.module, path) or "::".join(path)
-        kinds = self.handed(name, [state.kind(local) for local in locals_])
+    def called(self, state, name, operands, place):
+        target, projections = self.place(place)
+        kinds = [self.operand(state, operand) for operand in operands]
         if ARRAY in kinds:
-            return self.storing(state, number, self.library.functions[name], locals_, kinds)
+            if projections:
+                self.fail("a storing call answers into a part of a value")
+            return self.storing(state, name, operands, kinds, target)
         if name == END and state.stands in (COUNTING, WITHIN):
-            if kinds[1] != ALLOWANCE or not self.is_count(state, locals_[2], COUNTED):
+            if kinds[1] != ALLOWANCE or not self.is_count(state, operands[2], kinds[2]):
                 self.fail(f"{END} is not handed the allowance and the count")
-            return self.made(replace(state, stands=ENDED, holders=frozenset()), number, ANSWER)
+            return self.noted(replace(state, stands=ENDED, holders=frozenset()), target, ANSWER)
         for kind in kinds:
             self.harmless(state, kind, f"is handed to {name}")
-        return self.made(state, number, PLAIN)
+        return state if projections else self.noted(state, target, PLAIN)
 
-    def handed(self, name, kinds):
-        """What a function is handed: the array by what it takes it for."""
-        if ARRAY not in kinds:
-            return kinds
-        if name not in self.library.functions:
-            self.fail(f"the array is handed to {name}, which is not there")
-        by_type = {WORDS: READABLE, WRITABLE_WORDS: ARRAY}
-        taken = [kind for _, kind in self.library.functions[name].parameters]
-        if any(kind == ARRAY and type_ not in by_type for kind, type_ in zip(kinds, taken)):
-            self.fail(f"{name} takes the array for something else")
-        return [by_type[type_] if kind == ARRAY else kind for kind, type_ in zip(kinds, taken)]
+    def is_count(self, state, operand, kind):
+        """Whether an operand is the count as it is now."""
+        if kind == ZERO and operand[0] == "int":
+            return state.stands == UNBEGUN
+        return kind in (ZERO, COUNT) and operand[0] == "copy" and self.place(operand[1])[0] in state.holders
 
-    def is_count(self, state, local, type_):
-        """Whether a value that is handed on is the count as it is now."""
-        return state.kind(local) in (ZERO, COUNT) and local in state.holders and type_ == COUNTED
-
-    def storing(self, state, number, function, locals_, kinds):
+    def storing(self, state, name, operands, kinds, target):
         """A call that is lent the array to be written."""
-        name = function.path
         if state.stands == ENDED:
             self.fail(f"{name} is called where the stores have ended")
-        taken = [type_ for _, type_ in function.parameters]
-        counts = [at for at, local in enumerate(locals_) if self.is_count(state, local, taken[at])]
+        counts = [at for at, kind in enumerate(kinds) if self.is_count(state, operands[at], kind)]
         resumes = name == RESUMES == self.name and state.stands == WITHIN and LEFT in kinds
         handed = [COUNT if at in counts else ALLOWANCE if resumes and kind == LEFT else kind for at, kind in enumerate(kinds)]
         for at, kind in enumerate(handed):
@@ -476,22 +333,25 @@ class Reading:
         if not counts and state.stands != UNBEGUN and not resumes:
             self.fail(f"{name} is not handed the count as it is now")
         answer = self.check.read(name, tuple(PLAIN if is_harmless(kind) else kind for kind in handed))
+        return self.behind_stores(state, answer, target)
+
+    def behind_stores(self, state, answer, target):
         behind = state.behind_stores()
         if answer == ANSWER:
-            return self.made(replace(behind, stands=ENDED), number, ANSWER)
-        return self.made(behind, number, answer, holds=has_count(answer))
+            return self.noted(replace(behind, stands=ENDED), target, ANSWER)
+        return self.noted(behind, target, answer, holds=answer == COUNT)
 
 
 class Check:
     """The functions of a library, each read once with what it is handed."""
 
-    def __init__(self, library):
-        self.library, self.answers = library, {}
+    def __init__(self, found):
+        self.functions, self.answers = found, {}
 
     def pinned(self):
         """The functions that are read by their whole form have it."""
         for name, form in PINNED.items():
-            found = self.library.functions[name].form() if name in self.library.functions else "nothing"
+            found = "".join(line + "\n" for line in lines(self.functions[name].body))
             if found != form:
                 raise NotUnderstood(f"{name} is not of the form that was read:\n{found}")
 
@@ -499,6 +359,8 @@ class Check:
         """What a function answers that is lent the array: COUNT, ANSWER, or Answered."""
         key = (name, handed)
         if key not in self.answers:
+            if name not in self.functions:
+                raise NotUnderstood(f"{name} is lent the array, and its MIR is not there")
             self.answers[key] = ANSWER if name == RESUMES else None
             self.answers[key] = self.store(handed) if name == STORE else self.answer(name, handed)
         if self.answers[key] is None:
@@ -511,7 +373,7 @@ class Check:
         return COUNT
 
     def answer(self, name, handed):
-        answers = Reading(self, self.library.functions[name], handed).answers
+        answers = Reading(self, name, handed).answers
         if all(isinstance(answer, Tagged) for answer in answers) and any(answer.count is not None for answer in answers):
             counts = {answer.variant: answer.count for answer in answers}
             if len(counts) != len(set(answers)):
@@ -526,14 +388,14 @@ class Check:
 
 def handed_by_source(taken):
     """What a function is handed from outside, by the names and types of its parameters."""
-    by_source = {("words", WRITABLE_WORDS): ARRAY, ("allowance", COUNTED): ALLOWANCE}
+    by_source = {("words", "&mut [u64]"): ARRAY, ("allowance", "u32"): ALLOWANCE}
     return tuple(by_source.get(parameter, PLAIN) for parameter in taken)
 
 
-def form_of(library, roots):
-    """Reads every function of the library that is lent the index array to be written, from these functions down, and from
-    `perform` down; answers how many they are."""
-    check = Check(library)
+def form_of(functions, roots):
+    """Reads every function of these that is lent the index array to be written, from the exported ones down, and from `perform`
+    down; answers how many they are."""
+    check = Check(functions)
     check.pinned()
     for path, taken in roots.items():
         handed = handed_by_source(taken)

@@ -1,8 +1,7 @@
-# What is known of a function's values while it is read: their kinds, and how the call stands. A local is a parameter (numbers below
-# 0), what the function answers (0), or the value or name that a node of its tree makes (the node's number).
+# What is known of a function's locals while it is read: their kinds, and how the call stands.
 from dataclasses import dataclass, field, replace
 
-# PLAIN decides nothing about stores; ZERO is a number 0, with which a count can begin.
+# PLAIN decides nothing about stores; ZERO is a number 0 of 32 bits, with which a count can begin.
 PLAIN, ZERO, ARRAY, READABLE, POINTER, OWN = "a number", "0", "the array", "the array to be read", "a pointer into it", "own memory"
 ALLOWANCE, COUNT, USED, LEFT = "the allowance", "the count", "a count that was used", "the allowance that is left"
 CUT, ANSWER, CALL, MIXED = "whether it is cut", "an answer", "a call as data", "one or the other"
@@ -12,8 +11,8 @@ CUT, ANSWER, CALL, MIXED = "whether it is cut", "an answer", "a call as data", "
 class Tagged:
     """A value of an enum, made here: its variant, and which field of it is the count, if one is."""
 
-    variant: str
-    count: str | None
+    variant: int
+    count: int | None
 
 
 @dataclass(frozen=True)

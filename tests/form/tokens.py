@@ -57,6 +57,10 @@ class Tokens:
     def word(self):
         return self.next() if self.kind() == "word" else self.fail("no name")
 
+    def words(self, begin, end):
+        """The tokens from one up to another as one text, which does not depend on the layout."""
+        return " ".join(token[1] for token in self.tokens[begin:end])
+
     def slice(self, begin, end):
         """What stands in the source from one token up to another, with single blanks."""
         return " ".join(self.source[self.tokens[begin][2]:self.tokens[end][2]].split()) if begin < end else ""
