@@ -1,5 +1,5 @@
 -- What a done print has written reads back to exactly the year's jobs.
-use Prim.Native.Nat.{ℕ, suc, ◌+◌, ◌-◌, ◌^◌, ◌≤◌, ◌<◌}
+use Prim.Native.Nat.{ℕ, suc, ◌-◌, ◌^◌, ◌≤◌, ◌<◌}
 use mathlib.Core.Path.{◌≡◌, refl, sym, ap, ◌∙◌}
 use mathlib.Core.Bool.{Bool, true, false, ◌&&◌}
 use mathlib.Core.List.{List, [], ◌∷◌, ◌++◌, append_assoc, Memᴰ}
@@ -15,7 +15,7 @@ use Rattle.stores.proofs.Written.{at_front_words}
 use Rattle.stores.proofs.Tests.{and_left, and_right}
 use Rattle.index_laws.proofs.Lookups.{found_below}
 use Rattle.text.specs.Parts.{tab, line_feed, fields_of}
-use Rattle.text.specs.Number.{number, decimal}
+use Rattle.text.specs.Number.{decimal}
 use Rattle.text.proofs.Digits.{number_decimal}
 use Rattle.text.proofs.Lines.{lines_none}
 use Rattle.text.proofs.Joined.{without, without_append, decimal_without, parts_alone, parts_joined, lines_joined}

@@ -4,9 +4,9 @@ ghost use Rattle.std.proofs.Math.Option.{none};
 ghost use Rattle.desk_text.specs.Line.{call_of};
 ghost use Rattle.desk_text.specs.Fields.{fields_call};
 
-use text::scan::find;
 use text::TAB;
 use text::number::{Number, read_number};
+use text::scan::find;
 
 // The most numbers of a call.
 pub const MOST_NUMBERS: usize = 3;

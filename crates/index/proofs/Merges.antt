@@ -1,5 +1,5 @@
 -- The outcome of a merge, case by case, from what the code read, stored and answered.
-use mathlib.Core.Path.{◌≡◌, refl, ◌∙◌}
+use mathlib.Core.Path.{◌≡◌, ◌∙◌}
 use mathlib.Core.List.{List, []}
 use mathlib.Core.Option.{none, some}
 use Prim.Native.Nat.{ℕ}
@@ -9,15 +9,12 @@ use Rattle.replies.specs.declared.Answer.{Answer}
 use Rattle.replies.specs.Replies.{done, refused, refuse, tested}
 use Rattle.replies.specs.Answered.{Answered}
 use Rattle.index_rules.specs.declared.Call.TheVariants.{Merge}
-use Rattle.index_rules.specs.Layout.{depth, segments}
+use Rattle.index_rules.specs.Layout.{depth}
 use Rattle.index_rules.specs.Keys.{index}
 use Rattle.index_rules.specs.Get.{key_entry}
 use Rattle.index_rules.specs.Put.{put_tests}
 use Rattle.index_rules.specs.Merge.{merge_tests, key_merging, merge}
 use Rattle.index_rules.specs.Step.{effect, step, outcome_of}
-use Rattle.index_laws.proofs.Keys.{index_lt}
-use Rattle.index_laws.proofs.Blocks.{consistent_blocks}
-use Rattle.index_laws.proofs.Doubling.{entry_of_key}
 use Rattle.index_laws.proofs.Put.{Passed, passed}
 use Rattle.index_laws.proofs.Merge.{key_placed, left_below, right_below, no_buddy, both_live_holds, both_pass, tests_stop, tests_past}
 use Rattle.index_layout.specs.declared.place.Place.{Place}

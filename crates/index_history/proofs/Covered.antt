@@ -5,7 +5,7 @@ use mathlib.Core.List.{List, []}
 use mathlib.Core.Option.{none}
 use mathlib.Core.Logic.{⊎_elim}
 use Prim.Native.Nat.{ℕ}
-use Rattle.replies.specs.Replies.{done, changed}
+use Rattle.replies.specs.Replies.{changed}
 use Rattle.index_rules.specs.Merge.{merge_tests, merge}
 use Rattle.index_rules.specs.Step.{effect, step}
 use Rattle.replies.proofs.Outcomes.{Complete, CutShort, changed_cases, refused_not_done, tested_none, tests_passed}

@@ -15,7 +15,6 @@ use Rattle.replies.specs.declared.Refusal.TheVariants.{NoKey, Unmended}
 use Rattle.replies.specs.Replies.{Said, refuse, unless, tested, changed, is_refusal}
 use Rattle.replies.specs.Writing.{Writing, behind_tests}
 use Rattle.replies.proofs.Outcomes.{changed_complete, tested_some}
-use Rattle.index_rules.specs.declared.Call.{Call}
 use Rattle.index_rules.specs.declared.Call.TheVariants.{Format, Get, Put, Remove, Merge, Mend, List as ListCall, ListBlock}
 use Rattle.index_rules.specs.Layout.{depth}
 use Rattle.index_rules.specs.Scan.{entries_agree}
@@ -31,7 +30,7 @@ use Rattle.index_laws.proofs.Words.{header_valid}
 use Rattle.index_laws.proofs.Mending.{nothing_to_mend}
 use Rattle.index_laws.proofs.Put.{put_refused}
 use Rattle.runs.specs.Map.{Map}
-use Rattle.runs.specs.Run.{Point, may_follow}
+use Rattle.runs.specs.Run.{may_follow}
 use Rattle.index_history.specs.Further.{EarlyCalls}
 use Rattle.index_history.proofs.Invariant.{Inv, shape_depth, shape_segments, shape_valid}
 use Rattle.index_history.proofs.Recover.{inv_leaders_valid}

@@ -1,11 +1,11 @@
 -- Mending keeps the invariant under every allowance, and with enough leaves a store that needs no recovery.
 use mathlib.Core.Path.{◌≡◌, ◌∙◌}
 use mathlib.Core.List.{List}
-use mathlib.Core.Logic.{◌⊎◌, ⊎_elim}
+use mathlib.Core.Logic.{⊎_elim}
 use Prim.Native.Nat.{ℕ, suc, ◌^◌, ◌≤◌, ◌<◌}
 use native.Mathlib.Omega.{arith}
 use lib.Pow.{pow_pos, pow_mono}
-use Rattle.stores.specs.Store.{store, apply, exec, Every}
+use Rattle.stores.specs.Store.{apply, exec}
 use Rattle.index_rules.specs.Layout.{entry_at, segment_of, local_depth}
 use Rattle.index_rules.specs.Mend.{mending}
 use Rattle.index_laws.proofs.Mending.{PartlyMended, Mendable, mending_partly, mended_entries}

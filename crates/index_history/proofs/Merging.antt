@@ -10,7 +10,7 @@ use native.Mathlib.Omega.{arith}
 use borrow.Author.Tests.{eqb-true, not-true}
 use lib.Dec.{eqb}
 use lib.ListN.{length, take}
-use Rattle.stores.specs.Store.{Store, word, store, apply, exec, Every}
+use Rattle.stores.specs.Store.{Store, word, apply, exec, Every}
 use Rattle.stores.proofs.Tests.{by_test, by_equal, and_true, and_right}
 use Rattle.stores.proofs.Lists.{any_true, every_each, every_take, every_map}
 use Rattle.stores.proofs.Stores.{apply_append, length_apply, length_exec, exec_all, exec_none, word_set_same, word_elsewhere, word_keeps}

@@ -6,10 +6,10 @@ use mathlib.Core.Option.{Option, none, some}
 use Prim.Native.Nat.{ℕ, zero, suc, ◌+◌, ◌^◌, ◌≤◌, ◌<◌}
 use native.Mathlib.Omega.{arith}
 use lib.Dec.{eqb}
-use lib.ListN.{set, take}
+use lib.ListN.{set}
 use lib.Pow.{pow_pos}
 use Rattle.stores.specs.Lists.{pick, each}
-use Rattle.stores.specs.Store.{Store, word, store, apply}
+use Rattle.stores.specs.Store.{Store, word, apply}
 use Rattle.stores.specs.Plan.{Plan}
 use Rattle.stores.proofs.Tests.{by_test}
 use Rattle.stores.proofs.Lists.{each_same, all_same}
@@ -20,17 +20,16 @@ use Rattle.index_rules.specs.Keys.{index}
 use Rattle.index_rules.specs.Scan.{valid_leader, next_leader, leader, leading_entry, leaders_valid, entries_agree}
 use Rattle.index_rules.specs.Slots.{hit, choose}
 use Rattle.replies.specs.Replies.{Said, unless, tested, replied}
-use Rattle.replies.specs.Writing.{Writing, nothing, behind_tests}
+use Rattle.replies.specs.Writing.{Writing, behind_tests}
 use Rattle.index_rules.specs.Get.{key_entry, key_segment, value_at_hit}
 use Rattle.index_rules.specs.Split.{moves, copy_slot, copying}
 use Rattle.index_rules.specs.Mend.{mend_entry}
-use Rattle.index_rules.specs.Listing.{live_record, records}
+use Rattle.index_rules.specs.Listing.{live_record}
 use Rattle.index_laws.specs.Limits.{Agree}
 use Rattle.index_laws.proofs.Words.{entry_inside, directories_below}
 use Rattle.index_laws.proofs.Keys.{index_lt}
 use Rattle.index_laws.proofs.Slots.{hit_same, choose_same}
 use Rattle.index_laws.proofs.Scan.{leader_le}
-use Rattle.index_laws.proofs.Put.{passed}
 use Rattle.index_laws.proofs.Range.{hit_slot}
 
 -- ---- Tests and picks

@@ -19,11 +19,11 @@ use Rattle.replies.specs.declared.Refusal.{Refusal}
 use Rattle.replies.specs.declared.Refusal.TheVariants.{NoLeader}
 use Rattle.replies.specs.declared.Following.{Following}
 use Rattle.replies.specs.declared.Following.TheVariants.{Next, Last}
-use Rattle.replies.specs.Replies.{done, listed, refused, refuse, number_of, is_refusal, says_damage, said_by, unless}
+use Rattle.replies.specs.Replies.{listed, refused, refuse, number_of, is_refusal, says_damage, said_by, unless}
 use Rattle.replies.specs.Writing.{Writing, behind_tests}
 use Rattle.index_rules.specs.declared.Call.TheVariants.{List as ListCall, ListBlock}
 use Rattle.index_rules.specs.Layout.{depth, segments, entry_at, local_depth}
-use Rattle.index_rules.specs.Scan.{leader, leaders, leaders_valid}
+use Rattle.index_rules.specs.Scan.{leaders, leaders_valid}
 use Rattle.index_rules.specs.Put.{directory_tests}
 use Rattle.index_rules.specs.Listing.{records, words_of, listing_tests, room_test, list_tests, list}
 use Rattle.index_rules.specs.ListBlock.{leads, records_led, behind_led, following, following_led, list_block_tests, list_block}

@@ -45,7 +45,7 @@ use Rattle.index_laws.proofs.BlockRecords.{leader_segment, leads_at}
 use Rattle.index_laws.proofs.Listing.{listing_passed, block_passed}
 use Rattle.index_laws.proofs.Merge.{HalvesPlaced, consistent_placed, joined_room, left_below, right_below, merge_passed}
 use Rattle.index_laws.proofs.Joining.{buddy_inside}
-use Rattle.index_laws.proofs.Blocks.{Blocks, consistent_blocks}
+use Rattle.index_laws.proofs.Blocks.{consistent_blocks}
 use Rattle.index_rules.specs.Merge.{buddy_start, joined_depth, joined_bits, buddy_entry, left_entry, right_entry, left_segment, right_segment, live_left, live_right, both_live, merge_slot, merging_slots, has_buddy, both_live_at, halves_tests, merge_tests, slots_merged, merging_of, merge}
 use Rattle.index_laws.specs.Limits.{Sizes, own_sizes, Agree, AlikeFor, Alike, SameOutcome}
 use Rattle.index_laws.proofs.Doubling.{entry_of_key}

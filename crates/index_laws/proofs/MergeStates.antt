@@ -10,7 +10,7 @@ use Rattle.index_rules.specs.declared.Call.TheVariants.{Remove, Merge, Mend}
 use Rattle.replies.specs.Replies.{Said, done, refused}
 use Rattle.index_rules.proofs.Table.{Names, Lookup, Row, behind, all_pass}
 use Rattle.index_rules.proofs.States.{F, P, stands, names, page, missing, pages, row}
-use Rattle.index_rules.proofs.Rows.{present, entry₁, two_blocks, slot, damaged}
+use Rattle.index_rules.proofs.Rows.{present, entry₁, slot, damaged}
 use Rattle.index_laws.proofs.Samples.{four, old_store, moved}
 
 -- A merge with all its stores allowed.

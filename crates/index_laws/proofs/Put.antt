@@ -7,7 +7,7 @@ use mathlib.Core.Logic.{⊎_elim}
 use Prim.Native.Nat.{ℕ, zero, suc, ◌-◌, ◌≤◌, ◌<◌}
 use native.Mathlib.Nat.{eq-or-lt_of_le}
 use native.Mathlib.Omega.{arith}
-use borrow.Author.Tests.{eqb-false, ne_eqb, not-true, not-false, leb-true}
+use borrow.Author.Tests.{eqb-false, not-true, not-false, leb-true}
 use lib.Dec.{leb, eqb}
 use Rattle.stores.specs.Store.{store, apply}
 use Rattle.stores.specs.Plan.{Plan, reply_only, ◌then◌}
@@ -25,7 +25,7 @@ use Rattle.index_rules.specs.Get.{key_entry, key_segment, key_tests}
 use Rattle.index_rules.specs.Split.{splitting}
 use Rattle.index_rules.specs.Put.{directory_tests, put_tests, key_choice, placed, into_free, put_unused, unused, put}
 use Rattle.index_laws.specs.Full.{KeyFull}
-use Rattle.index_laws.proofs.Words.{ValidHeader, valid_header_holds, header_valid}
+use Rattle.index_laws.proofs.Words.{ValidHeader, valid_header_holds}
 use Rattle.index_laws.proofs.Keys.{index_lt}
 use Rattle.index_laws.proofs.Slots.{IntoSlot, found_by_choose, into_by_choose, full_by_choose}
 use Rattle.index_laws.proofs.Scan.{range_depth, range_segment, consistent_in_range}

@@ -4,14 +4,13 @@ use Prim.Native.Nat.{ℕ, ◌+◌, ◌*◌}
 use mathlib.Core.Path.{◌≡◌, refl}
 use mathlib.Core.Bool.{Bool, true, false}
 use mathlib.Core.List.{List, [], ◌∷◌, ◌++◌}
-use lib.ListN.{length, replicate}
 use Rattle.stores.specs.Lists.{each}
 use Rattle.stores.specs.Store.{Store, store}
 use Rattle.index_rules.specs.declared.Call.{Call}
 use Rattle.index_rules.specs.declared.Call.TheVariants.{Format, Get, Put, Remove, Merge, Mend, List as ListCall, ListBlock}
 use Rattle.index_rules.specs.Step.{lists}
 use Rattle.replies.specs.Replies.{Said, done, absent, refused}
-use Rattle.index_rules.proofs.Table.{Names, Lookup, Row, buckets, indexed, state, listing, all_pass}
+use Rattle.index_rules.proofs.Table.{Row, buckets, indexed, state, all_pass}
 use Rattle.index_rules.proofs.States.{F, P, fill, stands, names, page, missing, pages, row, sixteen, P263}
 use Rattle.index_rules.proofs.Rows.{word₀, present, entry₁, slot, two_blocks, damaged, listed_by}
 

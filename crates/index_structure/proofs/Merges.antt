@@ -14,7 +14,7 @@ use Rattle.stores.proofs.Tests.{and_left}
 use Rattle.stores.proofs.Lists.{each_same, every_each, any_same}
 use Rattle.stores.proofs.Stores.{executed_append}
 use Rattle.stores.proofs.Loops.{executed_length}
-use Rattle.index_rules.specs.Layout.{depth, segments, local_depth, key_address, value_address, key_at}
+use Rattle.index_rules.specs.Layout.{depth, local_depth, key_address, value_address, key_at}
 use Rattle.index_rules.specs.Keys.{first_bits, index, block_bits, block_start}
 use Rattle.index_rules.specs.Get.{key_entry}
 use Rattle.index_rules.specs.Merge.{joined_depth, buddy_entry, live_left, live_right, both_live, merge_record, merge_slot, merging_slots, has_buddy, slots_merged, entries_joined, merging_of, key_both_live, key_merging}

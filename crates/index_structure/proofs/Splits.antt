@@ -14,7 +14,7 @@ use Rattle.stores.specs.Store.{word, apply}
 use Rattle.stores.specs.Executed.{Executed, due_limit}
 use Rattle.stores.proofs.Stores.{executed_append}
 use Rattle.stores.proofs.Loops.{executed_length}
-use Rattle.index_rules.specs.Layout.{depth, max_depth, header, segment_address, local_depth}
+use Rattle.index_rules.specs.Layout.{depth, max_depth, segment_address, local_depth}
 use Rattle.index_rules.specs.Keys.{first_bits}
 use Rattle.index_rules.specs.Slots.{free_segment}
 use Rattle.index_rules.specs.Get.{key_entry}

@@ -1,7 +1,7 @@
 -- From the promise of a call to what is told of it.
 use Prim.Native.Nat.{ℕ}
 use mathlib.Core.Path.{◌≡◌, refl, ap, ◌∙◌}
-use mathlib.Core.List.{List, [], ◌∷◌}
+use mathlib.Core.List.{List}
 use lib.ListN.{length}
 use Rattle.replies.specs.declared.Following.{Following}
 use Rattle.replies.specs.declared.Reply.{Reply}

@@ -6,7 +6,7 @@ use mathlib.Core.List.{List, [], ◌∷◌}
 use Rattle.stores.proofs.Tests.{and_left, and_right, and_true}
 use Rattle.replies.specs.Replies.{Said, is_done}
 use Rattle.runs.specs.Map.{Map, View, formats, gets, puts, removes, mends, looks, keeps, fed, map_says}
-use Rattle.runs.specs.Run.{Machine, Point, may_follow, is_mend, next, finish, may_call, valid_run}
+use Rattle.runs.specs.Run.{Machine, Point, may_follow, is_mend, next, finish, valid_run}
 use Rattle.runs.specs.BeforeMending.{mends_behind, LookupsBeforeMending}
 use Rattle.runs.proofs.Runs.{Invariant, reached_good, reached_run}
 

@@ -1,7 +1,7 @@
 -- Mends that antt computes from the definitions, of the store of Samples.antt. This file imports no proof.
 use Prim.Native.Nat.{ℕ}
 use mathlib.Core.Path.{◌≡◌, refl}
-use mathlib.Core.Bool.{Bool, true, false, not, ◌&&◌, ◌||◌}
+use mathlib.Core.Bool.{Bool, true, false, ◌&&◌}
 use mathlib.Core.List.{List, [], ◌∷◌}
 use Rattle.stores.specs.Lists.{numbers_same}
 use Rattle.replies.specs.Replies.{done, said_same}

@@ -1,5 +1,5 @@
 -- A byte looked for from left to right: what the index in the rest of a text becomes with the next byte.
-use Rattle.std.proofs.Common.{◌≡◌, ℕ, suc, ◌+◌, ◌≤◌, ◌<◌, List, [], ◌∷◌, eqb, sym, refl, ◌∙◌, ap, arith, add-one, rules}
+use Rattle.std.proofs.Common.{◌≡◌, ℕ, suc, ◌+◌, ◌≤◌, ◌<◌, List, ◌∷◌, refl, ◌∙◌, arith, add-one}
 use Rattle.std.proofs.Math.ListN.{length, get_or, take, drop, length-take, drop_of_length-le}
 use Rattle.std.proofs.Math.Seq.{drop-cons}
 use Rattle.std.proofs.lemmas.List.{get_or-take}

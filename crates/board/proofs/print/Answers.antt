@@ -1,8 +1,6 @@
 -- `board::print` meets its contract.
 use mathlib.Core.Path.{sym, ◌∙◌}
 use native.Mathlib.Omega.{arith}
-use borrow.Author.Rules.{rules}
-use borrow.Author.Tests.{not-true, not-false}
 use Rattle.board.proofs.Jobs.{year_bounds}
 use Rattle.board.proofs.Lookups.{counted_bytes, counted_refusal}
 use Rattle.board.proofs.Printing.{printed_bad_year, printed_refused, printed_short, printed_done}
@@ -30,6 +28,4 @@ write_year-requires c =
 
 pub returns : goal.returns
 returns c =
-    
-    
     printed_done _ _ _ _ _ _ _ (sym c.valid_year.ensures ∙ c.if-not-valid_year.false) (counted_bytes _ _ _ c.count_year.ensures c.in-Bytes.is) c.if-buffer-bytes.false c.write_year.ensures c.without_store-2.ensures

@@ -1,5 +1,4 @@
 -- `board::read` meets its contract.
-use borrow.Author.Rules.{rules}
 use Rattle.board.proofs.Jobs.{job_called, job_refused}
 use Rattle.board.proofs.read.Goals as goal
 

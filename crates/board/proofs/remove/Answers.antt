@@ -1,5 +1,4 @@
 -- `board::remove` meets its contract.
-use borrow.Author.Rules.{rules}
 use Rattle.board.proofs.Jobs.{job_called, job_refused}
 use Rattle.board.proofs.remove.Goals as goal
 

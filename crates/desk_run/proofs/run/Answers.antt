@@ -1,6 +1,5 @@
 -- `desk_run::run` meets its contract.
 use native.Mathlib.Omega.{arith}
-use borrow.Author.Rules.{rules}
 use Rattle.text.proofs.Lines.{lines_few}
 use Rattle.desk_run.proofs.Runs.{output_too_long, output_lines}
 use Rattle.desk_run.proofs.run.Goals as goal

@@ -2,7 +2,6 @@
 use mathlib.Core.Path.{sym, ap, ◌∙◌}
 use Rattle.desk_text.specs.Line.{line_said}
 use Rattle.desk_run.proofs.Runs.{line_other, line_called}
-use borrow.Author.Rules.{rules}
 use Rattle.desk_run.proofs.run_line.Goals as goal
 
 pub returns-in_default : goal.returns-in_default
@@ -11,6 +10,5 @@ returns-in_default c =
 
 pub returns : goal.returns
 returns c =
-    
     line_called _ _ _ _ _ _ _ _ _ _ _ _ (sym c.read_line.ensures ∙ ap line_said c.in-Called.is)
     c.perform-answer.ensures c.write_answer.ensures

@@ -1,10 +1,7 @@
 -- `desk_run::run_lines` meets its contract. The invariant: the lines so far have been run, and the others have room.
-use mathlib.Core.Path.{◌≡◌, refl}
-use Prim.Native.Nat.{◌-◌}
-use lib.ListN.{length}
+use mathlib.Core.Path.{refl}
 use native.Mathlib.Omega.{arith}
 use borrow.Author.Rules.{rules}
-use Rattle.desk_run.specs.Progress.{LinesRan}
 use Rattle.desk_run.proofs.Runs.{lines_started, lines_more, lines_ended}
 use Rattle.desk_run.proofs.run_lines.Goals as goal
 

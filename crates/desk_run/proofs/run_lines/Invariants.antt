@@ -1,11 +1,8 @@
 -- `desk_run::run_lines` meets its contract. The invariant: the lines so far have been run, and the others have room.
-use mathlib.Core.Path.{◌≡◌, refl}
+use mathlib.Core.Path.{◌≡◌}
 use Prim.Native.Nat.{◌-◌}
 use lib.ListN.{length}
-use native.Mathlib.Omega.{arith}
-use borrow.Author.Rules.{rules}
 use Rattle.desk_run.specs.Progress.{LinesRan}
-use Rattle.desk_run.proofs.Runs.{lines_started, lines_more, lines_ended}
 use Rattle.desk_run.proofs.run_lines.Given as goal
 
 abbrev pub invariant-loop-next : goal.invariant-loop-next

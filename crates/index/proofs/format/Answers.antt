@@ -1,7 +1,5 @@
 -- `index::format` meets its contract.
-use borrow.Author.Rules.{rules}
 use native.Mathlib.Omega.{arith}
-use borrow.Author.Tests.{not-true, not-false}
 use mathlib.Core.Path.{sym, ap, ◌∙◌}
 use Rattle.replies.specs.Replies.{said_by}
 use Rattle.index_layout.proofs.Shapes.{shape}

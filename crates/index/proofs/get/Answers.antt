@@ -1,14 +1,10 @@
 -- `index::get` meets its contract.
-use Prim.Native.Nat.{◌+◌, ◌≤◌, ◌<◌}
 use native.Mathlib.Omega.{arith}
 use mathlib.Core.Path.{ap}
-use lib.ListN.{length}
 use Rattle.replies.specs.Replies.{said_by}
-use Rattle.index_rules.specs.Get.{get_tests}
 use Rattle.index_layout.proofs.Places.{place_bounds}
-use Rattle.index.proofs.Places.{Stands, stands, refused_by, found_hit, absent_hit, found_inside}
+use Rattle.index.proofs.Places.{stands, refused_by, found_hit, absent_hit, found_inside}
 use Rattle.index.proofs.Calls.{get_refused, get_absent, get_found}
-use borrow.Author.Rules.{rules}
 use Rattle.index.proofs.get.Goals as goal
 
 pub returns-in-Refused : goal.returns-in-Refused

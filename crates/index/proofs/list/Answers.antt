@@ -1,11 +1,9 @@
 -- `index::list` meets its contract.
-use borrow.Author.Rules.{rules}
 use mathlib.Core.Path.{ap, ◌∙◌}
 use mathlib.Core.List.{[], ◌∷◌}
 use Prim.Native.Nat.{ℕ}
 use Rattle.replies.specs.Replies.{said_by, done}
 use Rattle.index_laws.proofs.Listing.{listing_passed}
-use Rattle.index.specs.Blocks.{ListableRead}
 use Rattle.index.proofs.Listings.{listable_as, listable_refused, list_refused, list_short, list_done}
 use Rattle.index.proofs.list.Goals as goal
 

@@ -1,5 +1,4 @@
 -- `index::list_block` meets its contract.
-use borrow.Author.Rules.{rules}
 use native.Mathlib.Omega.{arith}
 use mathlib.Core.Path.{ap, ap₂, ◌∙◌}
 use mathlib.Core.List.{List}
@@ -8,7 +7,6 @@ use Rattle.replies.specs.Replies.{said_by, listed}
 use Rattle.index_rules.specs.Listing.{Record}
 use Rattle.index_laws.proofs.Listing.{listing_passed}
 use Rattle.index_layout.proofs.Shapes.{bounds}
-use Rattle.index.specs.Blocks.{ListableRead}
 use Rattle.index.proofs.Listings.{listable_as, listable_refused, found_at, found_none, place_inside, place_records_holds, following_read, block_refused, block_no_leader, block_short, block_done}
 use Rattle.index.proofs.list_block.Goals as goal
 
@@ -48,8 +46,6 @@ following-requires c = (bounds ((listable_as _ _ c.header_to_list.ensures _ c.in
 
 pub returns : goal.returns
 returns c =
-    
-    
     let h = (listable_as _ _ c.header_to_list.ensures _ c.in-As.is) in
     let f = found_at _ _ _ c.find_block.ensures _ c.in-At.is in
     let led = place_records_holds _ _ _ f.1 in

@@ -1,8 +1,6 @@
 -- `index::mend` meets its contract.
 use borrow.Author.Rules.{rules}
-use native.Mathlib.Omega.{arith}
 use mathlib.Core.Path.{ap}
-use mathlib.Core.Logic.{⊎_elim}
 use Rattle.replies.specs.Replies.{said_by}
 use Rattle.index_layout.proofs.Answers.{header_valid, header_not_valid}
 use Rattle.index_directory.proofs.Answers.{verdict_broken}
@@ -30,8 +28,6 @@ mend_entries-due-requires c =
 
 pub returns : goal.returns
 returns c =
-    
-    
     let d = header_valid _ _ c.read_header.ensures _ c.in-Valid.is in
     let v = verdict_valid c.args.words.now c.scan.result c.scan.ensures c.in_default-scan.not-Broken in
     mend_done _ _ _ d.valid v _ _ c.mend_entries-due.ensures c.after_stores.ensures

@@ -1,9 +1,7 @@
 -- `index::merge` meets its contract.
-use borrow.Author.Rules.{rules}
 use mathlib.Core.Path.{ap}
 use Rattle.replies.specs.Replies.{said_by}
-use Rattle.index_rules.specs.Put.{put_tests}
-use Rattle.index.proofs.Places.{Stands, stands, refused_by}
+use Rattle.index.proofs.Places.{stands, refused_by}
 use Rattle.index.proofs.Merges.{merge_refused, halves_below, merge_no_buddy, merge_both_live, merge_done, answer_is}
 use Rattle.index.proofs.merge.Goals as goal
 

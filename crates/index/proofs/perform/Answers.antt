@@ -1,6 +1,5 @@
 -- `index::perform` meets its contract.
 use mathlib.Core.Path.{refl}
-use borrow.Author.Rules.{rules}
 use Rattle.index.proofs.Performs.{performed, list_performed, list_block_performed}
 use Rattle.index.proofs.perform.Goals as goal
 

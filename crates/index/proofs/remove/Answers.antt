@@ -1,13 +1,9 @@
 -- `index::remove` meets its contract.
-use Prim.Native.Nat.{◌+◌, ◌≤◌, ◌<◌}
 use native.Mathlib.Omega.{arith}
 use mathlib.Core.Path.{ap}
-use lib.ListN.{length}
 use Rattle.replies.specs.Replies.{said_by}
-use Rattle.index_rules.specs.Put.{put_tests}
-use Rattle.index.proofs.Places.{Stands, stands, refused_by, chosen_hit, chosen_inside, not_chosen}
+use Rattle.index.proofs.Places.{stands, refused_by, chosen_hit, chosen_inside, not_chosen}
 use Rattle.index.proofs.Calls.{remove_refused, remove_absent, remove_done}
-use borrow.Author.Rules.{rules}
 use Rattle.index.proofs.remove.Goals as goal
 
 pub returns-in-Refused : goal.returns-in-Refused
@@ -34,4 +30,4 @@ pub overflow_add-base : goal.overflow_add-base
 overflow_add-base c = omega (arith, (chosen_inside (stands _ _ _ _ c.place_to_change.ensures _ c.in-At.is).2 _ c.choose_at.ensures _ c.in-Found.is))
 
 pub store_word-due-requires : goal.store_word-due-requires
-store_word-due-requires c = (omega (arith, (chosen_inside (stands _ _ _ _ c.place_to_change.ensures _ c.in-At.is).2 _ c.choose_at.ensures _ c.in-Found.is)) , omega arith)
+store_word-due-requires c = (omega (arith, (chosen_inside (stands _ _ _ _ c.place_to_change.ensures _ c.in-At.is).2 _ c.choose_at.ensures _ c.in-Found.is)), omega arith)

@@ -1,5 +1,4 @@
 -- `page_index::next_told` meets its contract.
-use borrow.Author.Rules.{rules}
 use mathlib.Core.Path.{refl}
 use Rattle.page_index.proofs.Tellings.{next_kept}
 use Rattle.page_index.proofs.next_told.Goals as goal

@@ -1,5 +1,4 @@
 -- `page_index::page_index_list_block` meets its contract.
-use borrow.Author.Rules.{rules}
 use Rattle.page_index.proofs.Tellings.{told_block}
 use Rattle.page_index.proofs.page_index_list_block.Goals as goal
 

@@ -1,5 +1,4 @@
 -- `board::count::count_job` meets its contract.
-use borrow.Author.Rules.{rules}
 use Rattle.board.proofs.Found.{got, counted_found, counted_none, counted_refused}
 use Rattle.board.proofs.count.count_job.Goals as goal
 

@@ -1,14 +1,9 @@
 -- `board::count::count_month` meets its contract. The invariant: the jobs below `number` are counted.
 use Prim.Native.Nat.{◌-◌, ◌≤◌}
-use mathlib.Core.Path.{◌≡◌}
-use native.Mathlib.Numerals.{add-one}
-use native.Mathlib.Omega.{arith}
-use borrow.Author.Rules.{rules}
 use Rattle.stores.specs.Lists.{each}
 use Rattle.board.specs.declared.count.Counted.TheVariants.{Bytes}
 use Rattle.board.specs.Passes.{CountedBy}
-use Rattle.board.proofs.Lookups.{job_turn, month_each, counted_start, counted_turn, counted_stops, counted_bytes, counted_refusal}
-use Rattle.board.proofs.Found.{job_short, numbers_short}
+use Rattle.board.proofs.Lookups.{job_turn}
 use Rattle.board.proofs.count.count_month.Given as goal
 
 abbrev pub invariant-loop-number : goal.invariant-loop-number

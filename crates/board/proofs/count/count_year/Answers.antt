@@ -1,13 +1,9 @@
 -- `board::count::count_year` meets its contract. The invariant: the months before `month` + 1 are counted.
-use Prim.Native.Nat.{◌+◌, ◌-◌, ◌≤◌}
+use Prim.Native.Nat.{◌+◌}
 use mathlib.Core.Path.{◌≡◌}
 use native.Mathlib.Numerals.{add-one}
 use native.Mathlib.Omega.{arith}
-use borrow.Author.Rules.{rules}
-use Rattle.stores.specs.Lists.{each}
-use Rattle.board.specs.declared.count.Counted.TheVariants.{Bytes}
-use Rattle.board.specs.Passes.{CountedBy}
-use Rattle.board.proofs.Lookups.{month_turn, year_each, counted_start, counted_turn, counted_stops, counted_bytes, counted_refusal}
+use Rattle.board.proofs.Lookups.{year_each, counted_start, counted_turn, counted_stops, counted_bytes, counted_refusal}
 use Rattle.board.proofs.Found.{month_short, months_short}
 use Rattle.board.proofs.count.count_year.Goals as goal
 

@@ -1,6 +1,5 @@
 -- `board::job::job_key` meets its contract.
 use mathlib.Core.Path.{refl}
-use borrow.Author.Rules.{rules}
 use Rattle.board.specs.Jobs.{job_key}
 use Rattle.board.proofs.job.job_key.Goals as goal
 

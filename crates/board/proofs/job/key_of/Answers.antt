@@ -1,7 +1,5 @@
 -- `board::job::key_of` meets its contract.
 use mathlib.Core.Path.{sym, ◌∙◌}
-use borrow.Author.Rules.{rules}
-use borrow.Author.Tests.{not-true, not-false}
 use Rattle.board.proofs.Jobs.{year_bounds, month_bounds, number_bound, bad_year, bad_month, bad_number, tests_pass}
 use Rattle.board.proofs.job.key_of.Goals as goal
 

@@ -1,7 +1,6 @@
 -- `board::line::line_length` meets its contract.
 use mathlib.Core.Path.{sym}
 use native.Mathlib.Omega.{arith}
-use borrow.Author.Rules.{rules}
 use Rattle.text.proofs.Digits.{length_decimal}
 use Rattle.board.proofs.Lines.{length_line}
 use Rattle.board.proofs.line.line_length.Goals as goal

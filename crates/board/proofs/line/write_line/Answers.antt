@@ -1,6 +1,5 @@
 -- `board::line::write_line` meets its contract.
 use native.Mathlib.Omega.{arith}
-use borrow.Author.Rules.{rules}
 use Rattle.board.proofs.Lines.{length_line_of, line_written}
 use Rattle.board.proofs.line.write_line.Goals as goal
 
@@ -14,7 +13,6 @@ write_field-next-requires c =
 
 pub write_field-next-requires-2 : goal.write_field-next-requires-2
 write_field-next-requires-2 c =
-    
     omega (
       arith,
       length_line_of c.args.name c.args.number c.args.pages,
@@ -25,8 +23,6 @@ write_field-next-requires-2 c =
 
 pub write_byte-requires : goal.write_byte-requires
 write_byte-requires c =
-    
-    
     omega (
       arith,
       length_line_of c.args.name c.args.number c.args.pages,
@@ -38,6 +34,4 @@ write_byte-requires c =
 
 pub returns : goal.returns
 returns c =
-    
-    
     line_written _ _ (omega (arith, c.requires)) _ _ _ _ _ _ _ _ _ _ _ c.write_name-next.ensures c.write_field-next.ensures c.write_field-next-2.ensures c.write_byte.ensures

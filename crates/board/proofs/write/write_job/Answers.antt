@@ -1,7 +1,6 @@
 -- `board::write::write_job` meets its contract.
 use mathlib.Core.Path.{ap}
 use native.Mathlib.Omega.{arith}
-use borrow.Author.Rules.{rules}
 use lib.ListN.{length}
 use Rattle.stores.proofs.Written.{written_none}
 use Rattle.board.proofs.Found.{got, line_found, lines_none}
@@ -17,12 +16,10 @@ returns-in_default c =
 
 pub write_line-requires : goal.write_line-requires
 write_line-requires c =
-    
     let e = line_found _ _ _ _ _ (got _ _ _ _ _ _ _ c.job_key.ensures c.get-answer.ensures) _ _ c.in-Value.is c.requires.0.name_is in
     omega (arith, ap length e, c.requires.2)
 
 pub returns : goal.returns
 returns c =
-    
     let e = line_found _ _ _ _ _ (got _ _ _ _ _ _ _ c.job_key.ensures c.get-answer.ensures) _ _ c.in-Value.is c.requires.0.name_is in
     rw e c.write_line.ensures

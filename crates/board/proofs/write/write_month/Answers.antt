@@ -1,14 +1,9 @@
 -- `board::write::write_month` meets its contract. The invariant: the lines of the jobs below `number` are written.
-use Prim.Native.Nat.{◌-◌, ◌≤◌}
 use mathlib.Core.Path.{◌≡◌, refl}
 use native.Mathlib.Numerals.{add-one}
 use native.Mathlib.Omega.{arith}
 use borrow.Author.Rules.{rules}
-use lib.ListN.{length}
-use Rattle.stores.specs.Lists.{each}
-use Rattle.stores.specs.Written.{Written}
-use Rattle.board.specs.Print.{lines_in}
-use Rattle.board.proofs.Lookups.{job_turn, month_each, written_start, written_turn, turn_fits}
+use Rattle.board.proofs.Lookups.{month_each, written_start, written_turn, turn_fits}
 use Rattle.board.proofs.write.write_month.Goals as goal
 
 pub loop-number-init : goal.loop-number-init

@@ -1,14 +1,11 @@
 -- `board::write::write_year` meets its contract. The invariant: the lines of the months before `month` + 1 are written.
 use Prim.Native.Nat.{◌-◌, ◌≤◌}
-use mathlib.Core.Path.{◌≡◌, refl}
-use native.Mathlib.Numerals.{add-one}
-use native.Mathlib.Omega.{arith}
-use borrow.Author.Rules.{rules}
+use mathlib.Core.Path.{◌≡◌}
 use lib.ListN.{length}
 use Rattle.stores.specs.Lists.{each}
 use Rattle.stores.specs.Written.{Written}
 use Rattle.board.specs.Print.{lines_in}
-use Rattle.board.proofs.Lookups.{month_turn, year_each, written_start, written_turn, turn_fits}
+use Rattle.board.proofs.Lookups.{month_turn}
 use Rattle.board.proofs.write.write_year.Given as goal
 
 abbrev pub invariant-loop-month : goal.invariant-loop-month

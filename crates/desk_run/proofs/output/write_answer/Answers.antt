@@ -1,5 +1,4 @@
 -- `desk_run::output::write_answer` meets its contract.
-use Prim.Native.Nat.{◌+◌}
 use mathlib.Core.List.{[], ◌∷◌, ◌++◌}
 use native.Mathlib.Omega.{arith}
 use borrow.Author.Rules.{rules}
@@ -19,14 +18,11 @@ write_field-next-requires c =
 
 pub write_end-requires : goal.write_end-requires
 write_end-requires c =
-    
     omega (arith, length_reply c.args.answer.reply, length_decimal c.args.answer.stores, c.write_head-next.ensures.behind, c.write_field-next.ensures.behind)
 
 pub returns : goal.returns
 unfolding answer_line
 returns c =
-    
-    
     let said = said_by c.args.answer.reply in
     rw (append_assoc (head_text c.args.letter said ++ (tab ∷ decimal c.args.answer.stores)) (said_text said) (line_feed ∷ []))
     (written_append (head_text c.args.letter said ++ (tab ∷ decimal c.args.answer.stores)) (end_text said) _ _ _ _ _ _ (search rules)

@@ -22,6 +22,5 @@ write_byte-requires-2 c =
 
 pub returns : goal.returns
 returns c =
-    
     rw (c.in-Value.is, end_value c.in-Value.value)
     (written_append (_ ∷ decimal _) (_ ∷ []) _ _ _ _ _ _ (search rules) c.write_field-next.ensures c.write_byte-2.ensures)

@@ -8,6 +8,5 @@ use Rattle.desk_run.proofs.output.write_head.Goals as goal
 
 pub returns : goal.returns
 returns c =
-    
     written_append (_ ∷ _ ∷ []) (reply_text (said_by c.args.reply)) _ _ _ _ _ _ (search rules)
     (written_append (_ ∷ []) (_ ∷ []) _ _ _ _ _ _ (search rules) c.write_byte-next.ensures c.write_byte-next-2.ensures) c.write_reply.ensures

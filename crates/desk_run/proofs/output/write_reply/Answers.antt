@@ -2,7 +2,6 @@
 use Prim.Native.Nat.{◌≤◌}
 use lib.ListN.{length}
 use native.Mathlib.Omega.{arith}
-use borrow.Author.Rules.{rules}
 use Rattle.text.specs.Number.{decimal}
 use Rattle.desk_text.proofs.Texts.{length_refusal, reply_done}
 use Rattle.desk_run.proofs.output.write_reply.Goals as goal

@@ -1,12 +1,11 @@
 -- `desk_text::fields::read_fields` meets its contract. The invariant: each number read leaves the numbers so far and the fields that
 -- still follow.
-use Prim.Native.Nat.{◌-◌, ◌≤◌}
-use mathlib.Core.Path.{◌≡◌, sym, ap, ◌∙◌}
+use Prim.Native.Nat.{◌≤◌}
+use mathlib.Core.Path.{sym, ap, ◌∙◌}
 use native.Mathlib.Omega.{arith}
 use borrow.Author.Rules.{rules}
-use lib.ListN.{length, take}
 use Rattle.text.specs.Number.{number_said}
-use Rattle.desk_text.proofs.Reading.{Reading, read_nothing, read_letter, read_untabbed, read_tabbed, read_refused, read_all, held_more, held_last}
+use Rattle.desk_text.proofs.Reading.{read_nothing, read_letter, read_untabbed, read_tabbed, read_refused, read_all, held_more, held_last}
 use Rattle.desk_text.proofs.fields.read_fields.Goals as goal
 
 pub returns-then-line-eq0 : goal.returns-then-line-eq0
@@ -24,7 +23,6 @@ loop-i-init c = (omega arith, search rules, search rules, read_tabbed _ (search 
 
 pub returns-in_default : goal.returns-in_default
 returns-in_default c =
-    
     let inv = c.loop-i.invariant in (
       c.no_fields-in_default.ensures.0
           ∙ sym (read_refused _ _ _ _ _ inv.1 c.find-end.ensures.0 inv.3 (sym c.read_number.ensures ∙ ap number_said c.in_default.is)),
@@ -33,7 +31,6 @@ returns-in_default c =
 
 pub returns-then-end-line : goal.returns-then-end-line
 returns-then-end-line c =
-    
     let n = c.loop-i in
     let k = c.loop-i-test.true in
     let x = sym c.read_number.ensures ∙ ap number_said c.in-Is.is in
@@ -41,7 +38,6 @@ returns-then-end-line c =
 
 pub loop-i-preserved : goal.loop-i-preserved
 loop-i-preserved c =
-    
     let n = c.loop-i in
     let k = c.loop-i-test.true in
     let x = sym c.read_number.ensures ∙ ap number_said c.in-Is.is in (

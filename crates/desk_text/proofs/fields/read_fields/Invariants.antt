@@ -1,12 +1,9 @@
 -- `desk_text::fields::read_fields` meets its contract. The invariant: each number read leaves the numbers so far and the fields that
 -- still follow.
 use Prim.Native.Nat.{◌-◌, ◌≤◌}
-use mathlib.Core.Path.{◌≡◌, sym, ap, ◌∙◌}
-use native.Mathlib.Omega.{arith}
-use borrow.Author.Rules.{rules}
+use mathlib.Core.Path.{◌≡◌}
 use lib.ListN.{length, take}
-use Rattle.text.specs.Number.{number_said}
-use Rattle.desk_text.proofs.Reading.{Reading, read_nothing, read_letter, read_untabbed, read_tabbed, read_refused, read_all, held_more, held_last}
+use Rattle.desk_text.proofs.Reading.{Reading}
 use Rattle.desk_text.proofs.fields.read_fields.Given as goal
 
 abbrev pub invariant-loop-i : goal.invariant-loop-i

@@ -1,6 +1,5 @@
 -- `desk_text::line::read_line` meets its contract.
 use mathlib.Core.Path.{◌∙◌}
-use borrow.Author.Rules.{rules}
 use Rattle.desk_text.proofs.line.read_line.Goals as goal
 
 pub returns : goal.returns

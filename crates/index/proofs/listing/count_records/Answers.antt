@@ -2,14 +2,10 @@
 -- records of the indices below it.
 use native.Mathlib.Omega.{arith}
 use mathlib.Core.Path.{◌≡◌}
-use Prim.Native.Nat.{◌-◌, ◌*◌, ◌≤◌}
-use lib.ListN.{length}
-use Rattle.index_rules.specs.Layout.{depth}
-use Rattle.index_rules.specs.Scan.{leader}
 use Rattle.index_laws.proofs.Scan.{leader_zero}
-use Rattle.index_laws.proofs.BlockRecords.{records_to, records_start, records_end}
+use Rattle.index_laws.proofs.BlockRecords.{records_start, records_end}
 use Rattle.index_layout.proofs.Shapes.{bounds}
-use Rattle.index.proofs.Listings.{Turn, turn, loop_leads, count_turn}
+use Rattle.index.proofs.Listings.{turn, loop_leads, count_turn}
 use Rattle.index.proofs.listing.count_records.Goals as goal
 
 pub loop-i-init : goal.loop-i-init

@@ -1,15 +1,11 @@
 -- `index::listing::count_records` meets its contract. The invariant: the index leads a block, and the count is that of the
 -- records of the indices below it.
-use native.Mathlib.Omega.{arith}
 use mathlib.Core.Path.{◌≡◌}
 use Prim.Native.Nat.{◌-◌, ◌*◌, ◌≤◌}
 use lib.ListN.{length}
 use Rattle.index_rules.specs.Layout.{depth}
 use Rattle.index_rules.specs.Scan.{leader}
-use Rattle.index_laws.proofs.Scan.{leader_zero}
-use Rattle.index_laws.proofs.BlockRecords.{records_to, records_start, records_end}
-use Rattle.index_layout.proofs.Shapes.{bounds}
-use Rattle.index.proofs.Listings.{Turn, turn, loop_leads, count_turn}
+use Rattle.index_laws.proofs.BlockRecords.{records_to}
 use Rattle.index.proofs.listing.count_records.Given as goal
 
 abbrev pub invariant-loop-i : goal.invariant-loop-i

@@ -1,5 +1,4 @@
 -- `index::listing::find_block` meets its contract.
-use borrow.Author.Rules.{rules}
 use native.Mathlib.Omega.{arith}
 use Rattle.index_laws.proofs.Keys.{width_pos}
 use Rattle.index_laws.proofs.Listing.{listing_passed}

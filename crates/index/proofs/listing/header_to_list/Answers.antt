@@ -1,7 +1,5 @@
 -- `index::listing::header_to_list` meets its contract.
-use borrow.Author.Rules.{rules}
 use mathlib.Core.Path.{sym, ◌∙◌}
-use Rattle.index_layout.specs.Headers.{Describes}
 use Rattle.index_layout.proofs.Answers.{header_valid, header_not_valid}
 use Rattle.index.proofs.Listings.{front_no_store, front_directory}
 use Rattle.index.proofs.listing.header_to_list.Goals as goal

@@ -1,5 +1,4 @@
 -- `index::listing::read_block` meets its contract.
-use borrow.Author.Rules.{rules}
 use native.Mathlib.Omega.{arith}
 use Rattle.index_laws.proofs.Keys.{width_le}
 use Rattle.index_layout.proofs.Shapes.{bounds}

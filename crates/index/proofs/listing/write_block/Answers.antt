@@ -1,5 +1,4 @@
 -- `index::listing::write_block` meets its contract.
-use borrow.Author.Rules.{rules}
 use native.Mathlib.Omega.{arith}
 use Rattle.index_segment.proofs.Parts.{span, part_length, part_records}
 use Rattle.index.proofs.listing.write_block.Goals as goal

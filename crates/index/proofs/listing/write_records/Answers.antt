@@ -1,19 +1,13 @@
 -- `index::listing::write_records` meets its contract. The invariant: the index leads a block, and the records of the indices
 -- below it are written.
 use native.Mathlib.Omega.{arith}
-use mathlib.Core.Path.{◌≡◌, refl, ◌∙◌}
-use Prim.Native.Nat.{◌-◌, ◌≤◌}
-use lib.ListN.{length}
-use Rattle.index_rules.specs.Layout.{depth}
-use Rattle.index_rules.specs.Scan.{leader}
-use Rattle.index_rules.specs.Listing.{words_of}
+use mathlib.Core.Path.{refl, ◌∙◌}
 use Rattle.index_laws.proofs.Scan.{leader_zero}
 use Rattle.index_laws.proofs.BlockRecords.{records_to, records_start, records_end}
-use Rattle.stores.specs.Written.{Written}
 use Rattle.stores.proofs.Written.{written_none}
 use Rattle.index_laws.proofs.Listing.{words_none, length_words}
 use Rattle.index_layout.proofs.Shapes.{bounds}
-use Rattle.index.proofs.Listings.{Turn, turn, loop_leads, write_turn}
+use Rattle.index.proofs.Listings.{turn, loop_leads, write_turn}
 use Rattle.index.proofs.listing.write_records.Goals as goal
 
 pub loop-i-init : goal.loop-i-init

@@ -1,9 +1,7 @@
 -- `index::place::place_to_change` meets its contract.
 use mathlib.Core.Path.{sym, ◌∙◌}
-use Rattle.index_layout.specs.Headers.{Describes}
 use Rattle.index_layout.proofs.Answers.{header_valid, header_not_valid}
 use Rattle.index.proofs.Places.{change_no_store, change_no_key, change_directory_decides, change_entry}
-use borrow.Author.Rules.{rules}
 use Rattle.index.proofs.place.place_to_change.Goals as goal
 
 pub returns-in_default : goal.returns-in_default

@@ -1,7 +1,6 @@
 -- `index::place::place_to_read` meets its contract.
 use Rattle.index_layout.proofs.Answers.{header_valid, header_not_valid}
 use Rattle.index.proofs.Places.{read_no_store, read_no_key, read_entry_decides}
-use borrow.Author.Rules.{rules}
 use Rattle.index.proofs.place.place_to_read.Goals as goal
 
 pub returns-in_default : goal.returns-in_default

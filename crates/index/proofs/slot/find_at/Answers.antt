@@ -1,7 +1,6 @@
 -- `index::slot::find_at` meets its contract.
 use mathlib.Core.Path.{◌∙◌}
 use Rattle.index_segment.proofs.Parts.{span, part_hit}
-use borrow.Author.Rules.{rules}
 use Rattle.index.proofs.slot.find_at.Goals as goal
 
 pub returns : goal.returns

@@ -4,7 +4,6 @@ use Rattle.stores.proofs.Stores.{executed_append}
 use Rattle.index_layout.proofs.Places.{place_bounds}
 use Rattle.index.proofs.Answers.{answered_stores}
 use Rattle.index.proofs.Puts.{value_stored}
-use borrow.Author.Rules.{rules}
 use Rattle.index.proofs.slot.put_record.Goals as goal
 
 pub store_word-value_due-requires : goal.store_word-value_due-requires

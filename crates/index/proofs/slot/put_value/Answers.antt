@@ -3,7 +3,6 @@ use native.Mathlib.Omega.{arith}
 use Rattle.index_layout.proofs.Places.{place_bounds}
 use Rattle.index.proofs.Answers.{answered_stores}
 use Rattle.index.proofs.Puts.{value_stored}
-use borrow.Author.Rules.{rules}
 use Rattle.index.proofs.slot.put_value.Goals as goal
 
 pub store_word-due-requires : goal.store_word-due-requires

@@ -1,5 +1,4 @@
 -- `index_directory::bit_set::insert` meets its contract.
-use borrow.Author.Rules.{rules}
 use Rattle.index_directory.proofs.BitSets.{inserted}
 use Rattle.index_directory.proofs.bit_set.insert.Goals as goal
 

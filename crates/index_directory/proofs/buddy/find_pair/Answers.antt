@@ -1,6 +1,4 @@
 -- `index_directory::buddy::find_pair` meets its contract.
-use Prim.Native.Nat.{◌^◌, ◌<◌}
-use borrow.Author.Rules.{rules}
 use native.Mathlib.Omega.{arith}
 use mathlib.Core.Path.{sym, ◌∙◌}
 use Rattle.index_laws.proofs.Keys.{first_lt}
@@ -56,7 +54,6 @@ returns-then-local_depth_of-local_depth c =
 
 pub returns : goal.returns
 returns c =
-    
     let k = c.requires in
     let deep = c.if-local_depth-eq0.false in
     let b = c.starts_of-starts.ensures in

@@ -1,5 +1,4 @@
 -- `index_directory::buddy::starts_of` meets its contract.
-use borrow.Author.Rules.{rules}
 use native.Mathlib.Omega.{arith}
 use Rattle.index_directory.proofs.Buddies.{starts_small, begun}
 use Rattle.index_directory.proofs.buddy.starts_of.Goals as goal

@@ -1,11 +1,7 @@
 -- `index_directory::double::double` meets its contract.
 use borrow.Author.Rules.{rules}
-use mathlib.Core.Path.{◌≡◌, ◌∙◌}
-use Prim.Native.Nat.{◌+◌, ◌-◌, ◌≤◌}
+use mathlib.Core.Path.{◌∙◌}
 use native.Mathlib.Omega.{arith}
-use lib.ListN.{length}
-use Rattle.stores.specs.Lists.{each}
-use Rattle.stores.specs.Executed.{Executed}
 use Rattle.index_layout.proofs.Shapes.{bounds, next_room}
 use Rattle.stores.proofs.Loops.{before_loop, executed_length}
 use Rattle.index_directory.proofs.Doubles.{doubled_entry, double_turn, double_end}

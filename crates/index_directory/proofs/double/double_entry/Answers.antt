@@ -1,5 +1,4 @@
 -- `index_directory::double::double_entry` meets its contract.
-use borrow.Author.Rules.{rules}
 use Rattle.index_directory.proofs.double.double_entry.Goals as goal
 
 pub returns : goal.returns

@@ -1,5 +1,4 @@
 -- `index_directory::free::free_in` meets its contract.
-use borrow.Author.Rules.{rules}
 use Rattle.index_directory.proofs.Segments.{free_there, free_nowhere}
 use Rattle.index_directory.proofs.free.free_in.Goals as goal
 

@@ -1,5 +1,4 @@
 -- `index_directory::free::free_segment` meets its contract.
-use borrow.Author.Rules.{rules}
 use mathlib.Core.Path.{refl, ◌∙◌}
 use Rattle.index_directory.proofs.BitSets.{empty_set}
 use Rattle.index_directory.proofs.Segments.{free_named}

@@ -1,5 +1,4 @@
 -- `index_directory::free::note_entry` meets its contract.
-use borrow.Author.Rules.{rules}
 use Rattle.index_directory.proofs.Segments.{noted_below, noted_not}
 use Rattle.index_directory.proofs.free.note_entry.Goals as goal
 

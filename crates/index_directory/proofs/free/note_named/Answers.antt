@@ -1,12 +1,9 @@
 -- `index_directory::free::note_named` meets its contract.
-use borrow.Author.Rules.{rules}
 use mathlib.Core.Path.{◌∙◌}
-use Prim.Native.Nat.{◌-◌, ◌≤◌}
 use native.Mathlib.Omega.{arith}
 use Rattle.index_layout.proofs.Shapes.{bounds}
 use Rattle.index_layout.proofs.Entries.{entry_word}
-use Rattle.index_directory.specs.BitSets.{BitSet}
-use Rattle.index_directory.proofs.Segments.{NotedBelow, noted_none, noted_entry, noted_all}
+use Rattle.index_directory.proofs.Segments.{noted_none, noted_entry, noted_all}
 use Rattle.index_directory.proofs.free.note_named.Goals as goal
 
 pub loop-i-init : goal.loop-i-init
@@ -24,7 +21,6 @@ note_entry-requires c =
 
 pub loop-i-preserved : goal.loop-i-preserved
 loop-i-preserved c =
-    
     let d = c.requires.0 in
     let v = c.loop-i.invariant in (
       omega arith,

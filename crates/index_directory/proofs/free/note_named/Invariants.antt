@@ -1,12 +1,7 @@
 -- `index_directory::free::note_named` meets its contract.
-use borrow.Author.Rules.{rules}
-use mathlib.Core.Path.{◌∙◌}
 use Prim.Native.Nat.{◌-◌, ◌≤◌}
-use native.Mathlib.Omega.{arith}
-use Rattle.index_layout.proofs.Shapes.{bounds}
-use Rattle.index_layout.proofs.Entries.{entry_word}
 use Rattle.index_directory.specs.BitSets.{BitSet}
-use Rattle.index_directory.proofs.Segments.{NotedBelow, noted_none, noted_entry, noted_all}
+use Rattle.index_directory.proofs.Segments.{NotedBelow}
 use Rattle.index_directory.proofs.free.note_named.Given as goal
 
 abbrev pub invariant-loop-i : goal.invariant-loop-i

@@ -1,15 +1,11 @@
 -- `index_directory::join::join_entries` meets its contract. The invariant: the stores so far are due.
 use Prim.Native.Nat.{ℕ, ◌+◌, ◌-◌, ◌≤◌}
-use borrow.Author.Rules.{rules}
-use native.Mathlib.Omega.{arith}
-use mathlib.Core.Path.{◌≡◌, ◌∙◌}
+use mathlib.Core.Path.{◌≡◌}
 use mathlib.Core.List.{[], ◌∷◌}
 use lib.ListN.{length}
 use Rattle.stores.specs.Lists.{each}
 use Rattle.stores.specs.Store.{store}
 use Rattle.stores.specs.Executed.{Executed}
-use Rattle.stores.proofs.Loops.{before_loop, after_turn, executed_length}
-use Rattle.index_directory.proofs.Buddies.{joined_fit, join_done}
 use Rattle.index_directory.proofs.join.join_entries.Given as goal
 
 abbrev pub invariant-loop-t : goal.invariant-loop-t

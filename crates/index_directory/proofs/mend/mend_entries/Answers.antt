@@ -1,16 +1,12 @@
 -- `index_directory::mend::mend_entries` meets its contract.
 use borrow.Author.Rules.{rules}
-use mathlib.Core.Path.{◌≡◌, ◌∙◌}
-use Prim.Native.Nat.{◌+◌, ◌-◌, ◌≤◌}
+use mathlib.Core.Path.{◌∙◌}
 use native.Mathlib.Omega.{arith}
-use lib.ListN.{length}
-use Rattle.stores.specs.Lists.{each}
-use Rattle.stores.specs.Executed.{Executed}
-use Rattle.index_rules.specs.Layout.{depth, segments}
+use Rattle.index_rules.specs.Layout.{depth}
 use Rattle.index_rules.specs.Mend.{mend_entry}
 use Rattle.index_layout.proofs.Shapes.{bounds}
 use Rattle.stores.proofs.Loops.{before_loop, executed_length}
-use Rattle.index_directory.proofs.Blocks.{Passing, at_start}
+use Rattle.index_directory.proofs.Blocks.{at_start}
 use Rattle.index_directory.proofs.Mends.{mend_read, mend_depth, mend_found, mend_count, mend_turn, mend_end}
 use Rattle.index_directory.proofs.mend.mend_entries.Goals as goal
 
@@ -45,7 +41,6 @@ overflow_step-i c =
 
 pub loop-i-preserved : goal.loop-i-preserved
 loop-i-preserved c =
-    
     let d = c.requires.0.0 in
     let k = c.pow2-count.ensures in
     let i = c.loop-i.invariant in

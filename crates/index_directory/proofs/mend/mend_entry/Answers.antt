@@ -1,5 +1,4 @@
 -- `index_directory::mend::mend_entry` meets its contract.
-use borrow.Author.Rules.{rules}
 use borrow.Author.Tests.{eq-eqb, ne_eqb}
 use Rattle.stores.proofs.Stores.{executed_none}
 use Rattle.index_directory.proofs.mend.mend_entry.Goals as goal

@@ -1,5 +1,4 @@
 -- `index_directory::mend::next_block` meets its contract.
-use borrow.Author.Rules.{rules}
 use borrow.Author.Tests.{lt-ltb, le-ltb}
 use native.Mathlib.Omega.{arith}
 use Rattle.index_laws.proofs.Keys.{width_le}

@@ -1,11 +1,8 @@
 -- `index_directory::scan::scan` meets its contract.
-use borrow.Author.Rules.{rules}
-use Prim.Native.Nat.{◌-◌, ◌≤◌}
 use native.Mathlib.Omega.{arith}
-use Rattle.index_rules.specs.Layout.{depth, segments}
 use Rattle.index_layout.proofs.Shapes.{bounds}
 use Rattle.index_layout.proofs.Entries.{entry_word}
-use Rattle.index_directory.proofs.Blocks.{Scanned, scan_start, scan_goes_on, scan_stops, ends_consistent, ends_unmended}
+use Rattle.index_directory.proofs.Blocks.{scan_start, scan_goes_on, scan_stops, ends_consistent, ends_unmended}
 use Rattle.index_directory.proofs.scan.scan.Goals as goal
 
 pub loop-i-init : goal.loop-i-init
@@ -13,7 +10,6 @@ loop-i-init c = (omega arith, scan_start _ _ _)
 
 pub returns-in-Stop : goal.returns-in-Stop
 returns-in-Stop c =
-    
     let d = c.requires in
     let l = c.loop-i in
     scan_stops c.args.words.now l.i l.block l.agree

@@ -1,15 +1,11 @@
 -- `index_directory::update::fill_entries` meets its contract.
-use borrow.Author.Rules.{rules}
-use mathlib.Core.Path.{◌≡◌, ◌∙◌}
+use mathlib.Core.Path.{◌≡◌}
 use mathlib.Core.List.{[], ◌∷◌}
 use Prim.Native.Nat.{ℕ, suc, ◌+◌, ◌-◌, ◌≤◌}
-use native.Mathlib.Omega.{arith}
 use lib.ListN.{length}
 use Rattle.stores.specs.Lists.{each}
 use Rattle.stores.specs.Store.{store}
 use Rattle.stores.specs.Executed.{Executed}
-use Rattle.index_directory.specs.Updates.{filling}
-use Rattle.stores.proofs.Loops.{before_loop, after_turn, executed_length}
 use Rattle.index_directory.proofs.update.fill_entries.Given as goal
 
 abbrev pub invariant-loop-t : goal.invariant-loop-t

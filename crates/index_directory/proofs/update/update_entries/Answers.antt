@@ -1,5 +1,4 @@
 -- `index_directory::update::update_entries` meets its contract.
-use borrow.Author.Rules.{rules}
 use mathlib.Core.Path.{◌∙◌}
 use native.Mathlib.Omega.{arith}
 use Rattle.stores.proofs.Loops.{executed_length}
@@ -15,8 +14,6 @@ fill_entries-due-requires c =
 
 pub fill_entries-requires : goal.fill_entries-requires
 fill_entries-requires c =
-    
-    
     let h = halves_fit c.requires.0 in
     let p = c.fill_entries-due.ensures in
     let kept = executed_length p in
@@ -32,9 +29,6 @@ shape_of-words c =
 
 pub returns : goal.returns
 returns c =
-    
-    
-    
     update_done
     c.requires.0 _ _ _ _ _ _ _ _ _ _
     c.pow2.ensures

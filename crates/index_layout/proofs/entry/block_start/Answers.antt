@@ -1,5 +1,4 @@
 -- `index_layout::entry::block_start` meets its contract.
-use borrow.Author.Rules.{rules}
 use native.Mathlib.Omega.{arith}
 use Rattle.index_laws.proofs.Keys.{width_pos}
 use Rattle.index_layout.proofs.Entries.{rest_in_block, block_start_mask}

@@ -1,5 +1,4 @@
 -- `index_layout::entry::block_width` meets its contract.
-use borrow.Author.Rules.{rules}
 use mathlib.Core.Path.{sym, ◌∙◌}
 use Rattle.index_laws.proofs.Keys.{width_pow}
 use Rattle.index_layout.proofs.entry.block_width.Goals as goal

@@ -1,5 +1,4 @@
 -- `index_layout::entry::open_entry` meets its contract.
-use borrow.Author.Rules.{rules}
 use borrow.Author.Tests.{le-leb, lt-leb, lt-ltb, le-ltb}
 use Rattle.index_rules.specs.Scan.{in_range}
 use Rattle.index_layout.proofs.Entries.{says_in_range, says_broken}

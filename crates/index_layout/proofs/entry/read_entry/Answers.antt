@@ -1,5 +1,4 @@
 -- `index_layout::entry::read_entry` meets its contract.
-use borrow.Author.Rules.{rules}
 use native.Mathlib.Omega.{arith}
 use Rattle.index_layout.proofs.Shapes.{bounds}
 use Rattle.index_layout.proofs.Entries.{entry_word}

@@ -1,5 +1,4 @@
 -- `index_layout::header::pack_header` meets its contract.
-use borrow.Author.Rules.{rules}
 use native.Mathlib.Omega.{arith}
 use Rattle.index_rules.specs.Layout.{header}
 use Rattle.index_layout.proofs.header.pack_header.Goals as goal

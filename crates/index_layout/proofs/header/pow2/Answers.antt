@@ -1,5 +1,4 @@
 -- `index_layout::header::pow2` meets its contract.
-use borrow.Author.Rules.{rules}
 use mathlib.Core.Path.{◌∙◌}
 use Prim.Native.Nat.{◌^◌}
 use native.Mathlib.Nat.{one-mul}

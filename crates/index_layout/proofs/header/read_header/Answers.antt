@@ -1,6 +1,5 @@
 -- `index_layout::header::read_header` meets its contract.
-use borrow.Author.Rules.{rules}
-use borrow.Author.Tests.{eq-eqb, ne_eqb, le-leb, lt-leb, not-true, not-false}
+use borrow.Author.Tests.{eq-eqb, ne_eqb, le-leb, lt-leb}
 use mathlib.Core.Path.{sym, ◌∙◌}
 use Rattle.index_rules.specs.Layout.{mark_in, depth_in, max_depth_in, segments_in, valid_header}
 use Rattle.index_layout.proofs.Shapes.{says_valid, says_not_valid, empty_not_valid}

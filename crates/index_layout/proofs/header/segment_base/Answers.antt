@@ -1,5 +1,4 @@
 -- `index_layout::header::segment_base` meets its contract.
-use borrow.Author.Rules.{rules}
 use native.Mathlib.Omega.{arith}
 use native.Mathlib.Numerals.{add-one}
 use Prim.Native.Nat.{◌+◌, ◌^◌, ◌≤◌}

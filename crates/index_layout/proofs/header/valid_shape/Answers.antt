@@ -1,5 +1,4 @@
 -- `index_layout::header::valid_shape` meets its contract.
-use borrow.Author.Rules.{rules}
 use borrow.Author.Tests.{le-leb, lt-leb}
 use Rattle.index_rules.specs.Layout.{valid_shape}
 use Rattle.index_layout.proofs.header.valid_shape.Goals as goal

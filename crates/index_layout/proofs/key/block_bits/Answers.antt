@@ -1,12 +1,10 @@
 -- `index_layout::key::block_bits` meets its contract.
-use borrow.Author.Rules.{rules}
 use mathlib.Core.Path.{◌≡◌, sym, ◌∙◌}
-use Prim.Native.Nat.{ℕ, suc, ◌+◌, ◌-◌, ◌*◌, ◌/◌, ◌%◌, ◌^◌, ◌≤◌, ◌<◌}
+use Prim.Native.Nat.{ℕ, suc, ◌+◌, ◌*◌, ◌/◌, ◌%◌, ◌^◌, ◌≤◌, ◌<◌}
 use native.Mathlib.Nat.{mod-eq_of_lt, mod-one, div-one}
 use native.Mathlib.Numerals.{add-one, one-add}
 use native.Mathlib.Omega.{arith}
 use lib.Pow.{pow_mono, shr-shr, mod-pow-add}
-use Rattle.index_rules.specs.Keys.{first_bits, block_bits}
 use Rattle.index_laws.proofs.Keys.{first_zero, first_in_front, block_bits_shift, block_bits_lt}
 use Rattle.index_layout.proofs.key.block_bits.Goals as goal
 

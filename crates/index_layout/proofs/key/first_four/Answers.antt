@@ -1,5 +1,4 @@
 -- `index_layout::key::first_four` meets its contract.
-use borrow.Author.Rules.{rules}
 use Rattle.index_laws.proofs.Keys.{first_four}
 use Rattle.index_layout.proofs.key.first_four.Goals as goal
 

@@ -1,6 +1,5 @@
 -- `index_layout::key::open_key` meets its contract.
 use Rattle.index_laws.proofs.Keys.{folded_xor, bucket_mod, bits_div}
-use borrow.Author.Rules.{rules}
 use Rattle.index_layout.proofs.key.open_key.Goals as goal
 
 pub returns : goal.returns

@@ -2,7 +2,6 @@
 use native.Mathlib.Omega.{arith}
 use Rattle.index_layout.proofs.Shapes.{bounds}
 use Rattle.index_layout.proofs.Places.{key_index_lt, entry_segment, placed_at, placed_broken}
-use borrow.Author.Rules.{rules}
 use Rattle.index_layout.proofs.place.place_of.Goals as goal
 
 pub read_entry-requires : goal.read_entry-requires

@@ -1,5 +1,4 @@
 -- `index_segment::bucket::window_bucket` meets its contract.
-use borrow.Author.Rules.{rules}
 use native.Mathlib.Omega.{arith}
 use Rattle.index_laws.proofs.Keys.{bucket_mod, window_bucket_mod}
 use Rattle.index_segment.proofs.bucket.window_bucket.Goals as goal

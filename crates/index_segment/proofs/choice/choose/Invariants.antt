@@ -1,17 +1,13 @@
 -- `index_segment::choice::choose` meets its contract. The invariant: no slot of the buckets so far has the key, and `empty` and
 -- `usable` are the first empty and the first usable one of them.
 use Prim.Native.Nat.{◌-◌, ◌≤◌}
-use borrow.Author.Rules.{rules}
-use native.Mathlib.Omega.{arith}
-use mathlib.Core.Path.{◌≡◌, sym, ap, ◌∙◌}
-use mathlib.Core.Option.{none, or_else}
+use mathlib.Core.Path.{◌≡◌}
+use mathlib.Core.Option.{none}
 use Rattle.stores.specs.Lists.{first_in}
 use Rattle.index_layout.specs.Blocks.{shared}
-use Rattle.index_rules.specs.Slots.{chosen}
-use Rattle.index_laws.proofs.Keys.{window_bucket_lt}
 use Rattle.index_segment.specs.Answers.{hit_of}
 use Rattle.index_segment.specs.Bucket.{has, usable}
-use Rattle.index_segment.proofs.Search.{window_before, no_bucket_yet, bucket_passed, bucket_hit, bucket_joined, choose_found, choose_else}
+use Rattle.index_segment.proofs.Search.{window_before}
 use Rattle.index_segment.proofs.choice.choose.Given as goal
 
 abbrev pub invariant-loop-b : goal.invariant-loop-b

@@ -1,5 +1,4 @@
 -- `index_segment::choice::first_of` meets its contract.
-use borrow.Author.Rules.{rules}
 use mathlib.Core.Option.{or_else}
 use Rattle.index_segment.proofs.choice.first_of.Goals as goal
 

@@ -1,13 +1,11 @@
 -- `index_segment::choice::slot_with_key` meets its contract. The invariant: no slot so far has the key.
-use Prim.Native.Nat.{ℕ, ◌-◌, ◌≤◌, ◌<◌}
-use borrow.Author.Rules.{rules}
-use native.Mathlib.Omega.{arith}
-use mathlib.Core.Path.{◌≡◌, sym}
+use Prim.Native.Nat.{ℕ, ◌-◌, ◌≤◌}
+use mathlib.Core.Path.{◌≡◌}
 use mathlib.Core.List.{List}
 use mathlib.Core.Option.{none}
 use Rattle.stores.specs.Lists.{first_in}
 use Rattle.index_segment.specs.Bucket.{bucket_words, has}
-use Rattle.index_segment.proofs.Search.{slots_before, no_slot_yet, slot_passed, slot_hit, no_slot, slot_has, slot_has_not}
+use Rattle.index_segment.proofs.Search.{slots_before}
 use Rattle.index_segment.proofs.choice.slot_with_key.Given as goal
 
 abbrev pub invariant-loop-j : goal.invariant-loop-j

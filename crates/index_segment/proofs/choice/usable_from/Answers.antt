@@ -1,5 +1,4 @@
 -- `index_segment::choice::usable_from` meets its contract.
-use borrow.Author.Rules.{rules}
 use mathlib.Core.Option.{or_else}
 use Rattle.index_segment.proofs.choice.usable_from.Goals as goal
 

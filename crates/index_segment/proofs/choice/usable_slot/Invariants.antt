@@ -1,14 +1,12 @@
 -- `index_segment::choice::usable_slot` meets its contract. The invariant: no slot so far is usable.
-use Prim.Native.Nat.{ℕ, ◌-◌, ◌≤◌, ◌<◌}
-use borrow.Author.Rules.{rules}
-use native.Mathlib.Omega.{arith}
-use mathlib.Core.Path.{◌≡◌, sym, ◌∙◌}
+use Prim.Native.Nat.{ℕ, ◌-◌, ◌≤◌}
+use mathlib.Core.Path.{◌≡◌}
 use mathlib.Core.List.{List}
 use mathlib.Core.Option.{none}
 use Rattle.stores.specs.Lists.{first_in}
 use Rattle.index_layout.specs.Blocks.{shared}
 use Rattle.index_segment.specs.Bucket.{bucket_words, usable}
-use Rattle.index_segment.proofs.Search.{slots_before, no_slot_yet, slot_passed, slot_hit, no_slot, slot_usable}
+use Rattle.index_segment.proofs.Search.{slots_before}
 use Rattle.index_segment.proofs.choice.usable_slot.Given as goal
 
 abbrev pub invariant-loop-j : goal.invariant-loop-j

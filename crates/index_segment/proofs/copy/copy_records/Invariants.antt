@@ -1,19 +1,10 @@
 -- `index_segment::copy::copy_records` meets its contract. The invariant: the stores of the slots so far are due.
 use Prim.Native.Nat.{◌+◌, ◌*◌, ◌-◌, ◌≤◌}
-use borrow.Author.Rules.{rules}
-use native.Mathlib.Omega.{arith}
-use native.Mathlib.Numerals.{add-one}
-use mathlib.Core.Path.{◌≡◌, refl, ◌∙◌}
+use mathlib.Core.Path.{◌≡◌}
 use lib.ListN.{length}
 use Rattle.stores.specs.Lists.{each}
 use Rattle.stores.specs.Executed.{Executed}
-use Rattle.stores.proofs.Lists.{each_zero, each_suc}
-use Rattle.stores.proofs.Stores.{executed_none, executed_append}
-use Rattle.index_layout.specs.Blocks.{shared}
-use Rattle.index_rules.specs.Split.{copy_slot, copying}
 use Rattle.index_segment.specs.Slot.{slot_copy}
-use Rattle.index_segment.proofs.Words.{slot_holds}
-use Rattle.index_segment.proofs.Copies.{copy_short}
 use Rattle.index_segment.proofs.copy.copy_records.Given as goal
 
 abbrev pub invariant-loop-slot : goal.invariant-loop-slot

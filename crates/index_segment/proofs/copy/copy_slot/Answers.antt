@@ -1,6 +1,5 @@
 -- `index_segment::copy::copy_slot` meets its contract.
 use Prim.Native.Nat.{◌+◌, ◌*◌}
-use borrow.Author.Rules.{rules}
 use mathlib.Core.Path.{sym, ◌∙◌}
 use mathlib.Core.List.{[], ◌∷◌}
 use Rattle.stores.specs.Store.{store}
@@ -11,7 +10,6 @@ use Rattle.index_segment.proofs.copy.copy_slot.Goals as goal
 
 pub returns-then-moves : goal.returns-then-moves
 returns-then-moves c =
-    
     let u = c.args in
     let L = u.block.local_depth in
     let bits = shared u.block in

@@ -1,15 +1,12 @@
 -- `index_segment::listing::count_live` meets its contract. The invariant: the count is that of the slots so far.
-use Prim.Native.Nat.{◌-◌, ◌≤◌}
 use borrow.Author.Rules.{rules}
 use native.Mathlib.Omega.{arith}
 use mathlib.Core.Path.{◌≡◌, sym, ◌∙◌}
-use mathlib.Core.Logic.{⊎_elim}
-use lib.ListN.{length}
 use Rattle.index_rules.specs.Layout.{key_at}
 use Rattle.index_rules.specs.Keys.{live}
 use Rattle.index_layout.specs.Blocks.{shared}
 use Rattle.index_segment.proofs.Words.{key_word}
-use Rattle.index_segment.proofs.Records.{records_below, records_none, count_live, count_stale, count_small}
+use Rattle.index_segment.proofs.Records.{records_none, count_live, count_stale, count_small}
 use Rattle.index_segment.proofs.listing.count_live.Goals as goal
 use Rattle.index_segment.proofs.listing.count_live.Goals.{then-is_live, else-is_live}
 
@@ -33,7 +30,7 @@ loop-slot-preserved c =
     let seen : live L bits (key_at a 0 slot) ≡ test.result = rw (key_word a slot) (sym test.ensures) in (
       search rules,
       elim c.if-is_live.branch [
-        then-is_live w ↦ omega (arith, count_live a L bits slot (seen ∙ w.if-is_live.true))
+        | then-is_live w ↦ omega (arith, count_live a L bits slot (seen ∙ w.if-is_live.true))
         | else-is_live w ↦ omega (arith, count_stale a L bits slot (seen ∙ w.if-is_live.false))
       ],
     )

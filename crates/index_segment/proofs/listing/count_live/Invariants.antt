@@ -1,15 +1,9 @@
 -- `index_segment::listing::count_live` meets its contract. The invariant: the count is that of the slots so far.
 use Prim.Native.Nat.{◌-◌, ◌≤◌}
-use borrow.Author.Rules.{rules}
-use native.Mathlib.Omega.{arith}
-use mathlib.Core.Path.{◌≡◌, sym, ◌∙◌}
-use mathlib.Core.Logic.{⊎_elim}
+use mathlib.Core.Path.{◌≡◌}
 use lib.ListN.{length}
-use Rattle.index_rules.specs.Layout.{key_at}
-use Rattle.index_rules.specs.Keys.{live}
 use Rattle.index_layout.specs.Blocks.{shared}
-use Rattle.index_segment.proofs.Words.{key_word}
-use Rattle.index_segment.proofs.Records.{records_below, records_none, count_live, count_stale, count_small}
+use Rattle.index_segment.proofs.Records.{records_below}
 use Rattle.index_segment.proofs.listing.count_live.Given as goal
 
 abbrev pub invariant-loop-slot : goal.invariant-loop-slot

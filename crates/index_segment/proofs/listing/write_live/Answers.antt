@@ -1,12 +1,11 @@
 -- `index_segment::listing::write_live` meets its contract. The invariant: the records of the slots so far are written.
-use Prim.Native.Nat.{◌+◌, ◌-◌, ◌≤◌}
+use Prim.Native.Nat.{◌+◌}
 use borrow.Author.Rules.{rules}
 use native.Mathlib.Omega.{arith}
 use mathlib.Core.Path.{◌≡◌, refl, ◌∙◌}
 use lib.ListN.{length}
 use Rattle.index_layout.specs.Blocks.{shared}
 use Rattle.index_rules.specs.Listing.{words_of, live_record}
-use Rattle.stores.specs.Written.{Written}
 use Rattle.stores.proofs.Written.{written_none, written_append}
 use Rattle.index_segment.proofs.Words.{key_word, slot_holds}
 use Rattle.index_laws.proofs.Listing.{words_none, words_append, length_words}

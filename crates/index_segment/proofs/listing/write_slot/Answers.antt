@@ -1,9 +1,7 @@
 -- `index_segment::listing::write_slot` meets its contract.
-use Prim.Native.Nat.{◌+◌, ◌≤◌}
-use borrow.Author.Rules.{rules}
 use native.Mathlib.Omega.{arith}
 use mathlib.Core.Path.{sym, ◌∙◌}
-use lib.ListN.{length, length-set}
+use lib.ListN.{length-set}
 use Rattle.index_layout.specs.Blocks.{shared}
 use Rattle.index_segment.proofs.Records.{written_live, written_stale}
 use Rattle.index_segment.proofs.listing.write_slot.Goals as goal

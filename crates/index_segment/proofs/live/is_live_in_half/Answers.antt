@@ -1,5 +1,4 @@
 -- `index_segment::live::is_live_in_half` meets its contract.
-use borrow.Author.Rules.{rules}
 use mathlib.Core.Path.{◌≡◌, refl, sym, ◌∙◌}
 use mathlib.Core.Bool.{true, false}
 use Rattle.index_rules.specs.Keys.{live}
@@ -12,7 +11,6 @@ is_live_by-requires c = (c.requires.0, c.open_key-opened.ensures.1)
 
 pub returns-then-is_live_by : goal.returns-then-is_live_by
 returns-then-is_live_by c =
-    
     let a = c.args in
     let L = a.block.local_depth in
     let lives : live L (shared a.block) a.key ≡ true = sym c.is_live_by.ensures ∙ c.if-is_live_by.true in
@@ -25,7 +23,6 @@ returns-then-is_live_by c =
 
 pub returns-else-is_live_by : goal.returns-else-is_live_by
 returns-else-is_live_by c =
-    
     let a = c.args in
     let L = a.block.local_depth in
     let stale : live L (shared a.block) a.key ≡ false = sym c.is_live_by.ensures ∙ c.if-is_live_by.false in

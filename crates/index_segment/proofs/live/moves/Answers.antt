@@ -1,5 +1,4 @@
 -- `index_segment::live::moves` meets its contract.
-use borrow.Author.Rules.{rules}
 use mathlib.Core.Path.{sym, ◌∙◌}
 use Rattle.index_laws.proofs.Halving.{moves_live}
 use Rattle.index_layout.specs.Blocks.{shared}

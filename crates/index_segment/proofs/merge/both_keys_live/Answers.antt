@@ -1,5 +1,4 @@
 -- `index_segment::merge::both_keys_live` meets its contract.
-use borrow.Author.Rules.{rules}
 use Prim.Native.Nat.{◌*◌}
 use native.Mathlib.Nat.{add-zero}
 use mathlib.Core.Path.{◌≡◌, sym, ◌∙◌}

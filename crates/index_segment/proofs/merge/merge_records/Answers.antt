@@ -1,10 +1,9 @@
 -- `index_segment::merge::merge_records` meets its contract. The invariant: the stores of the slots so far are due.
-use Prim.Native.Nat.{◌+◌, ◌*◌, ◌-◌, ◌≤◌}
+use Prim.Native.Nat.{◌+◌, ◌*◌}
 use borrow.Author.Rules.{rules}
 use native.Mathlib.Omega.{arith}
 use native.Mathlib.Numerals.{add-one}
 use mathlib.Core.Path.{◌≡◌, refl, ◌∙◌}
-use lib.ListN.{length}
 use Rattle.stores.specs.Lists.{each}
 use Rattle.stores.specs.Store.{word}
 use Rattle.stores.specs.Executed.{Executed}

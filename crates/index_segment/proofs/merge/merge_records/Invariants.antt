@@ -1,19 +1,11 @@
 -- `index_segment::merge::merge_records` meets its contract. The invariant: the stores of the slots so far are due.
-use Prim.Native.Nat.{◌+◌, ◌*◌, ◌-◌, ◌≤◌}
-use borrow.Author.Rules.{rules}
-use native.Mathlib.Omega.{arith}
-use native.Mathlib.Numerals.{add-one}
-use mathlib.Core.Path.{◌≡◌, refl, ◌∙◌}
+use Prim.Native.Nat.{◌*◌, ◌-◌, ◌≤◌}
+use mathlib.Core.Path.{◌≡◌}
 use lib.ListN.{length}
 use Rattle.stores.specs.Lists.{each}
-use Rattle.stores.specs.Store.{word}
 use Rattle.stores.specs.Executed.{Executed}
-use Rattle.stores.proofs.Lists.{each_zero, each_suc}
-use Rattle.stores.proofs.Stores.{executed_none, executed_append}
 use Rattle.index_layout.specs.Blocks.{shared}
-use Rattle.index_rules.specs.Merge.{merge_slot, merging_slots}
-use Rattle.index_laws.proofs.Merge.{length_record}
-use Rattle.index_segment.proofs.Merges.{slot_merged}
+use Rattle.index_rules.specs.Merge.{merge_slot}
 use Rattle.index_segment.proofs.merge.merge_records.Given as goal
 
 abbrev pub invariant-loop-slot : goal.invariant-loop-slot

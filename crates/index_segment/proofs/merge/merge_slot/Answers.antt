@@ -1,6 +1,5 @@
 -- `index_segment::merge::merge_slot` meets its contract.
 use Prim.Native.Nat.{◌+◌, ◌*◌}
-use borrow.Author.Rules.{rules}
 use native.Mathlib.Nat.{add-zero}
 use mathlib.Core.Path.{◌≡◌, sym, ◌∙◌}
 use mathlib.Core.Bool.{true}
@@ -14,7 +13,6 @@ use Rattle.index_segment.proofs.merge.merge_slot.Goals as goal
 
 pub returns-then-is_live_in_half : goal.returns-then-is_live_in_half
 returns-then-is_live_in_half c =
-    
     let u = c.args in
     let M = u.joined.local_depth in
     let bits = shared u.joined in

@@ -1,12 +1,9 @@
 -- `index_segment::merge::some_both_live` meets its contract. The invariant: no slot so far is live on both sides.
 use Prim.Native.Nat.{◌-◌, ◌≤◌}
-use borrow.Author.Rules.{rules}
-use native.Mathlib.Omega.{arith}
-use native.Mathlib.Numerals.{add-one}
-use mathlib.Core.Path.{◌≡◌, sym, ◌∙◌}
+use mathlib.Core.Path.{◌≡◌}
 use mathlib.Core.Bool.{false}
 use Rattle.stores.specs.Lists.{any_below}
-use Rattle.index_segment.proofs.Merges.{both_at, both_none, both_next, both_found, both_absent}
+use Rattle.index_segment.proofs.Merges.{both_at}
 use Rattle.index_segment.proofs.merge.some_both_live.Given as goal
 
 abbrev pub invariant-loop-slot : goal.invariant-loop-slot

@@ -1,16 +1,12 @@
 -- `index_segment::probe::find` meets its contract. The invariants: no slot of the buckets so far has the key, and none of the
 -- slots so far of the present bucket.
-use Prim.Native.Nat.{◌-◌, ◌≤◌, ◌<◌}
+use Prim.Native.Nat.{◌<◌}
 use borrow.Author.Rules.{rules}
 use native.Mathlib.Omega.{arith}
 use mathlib.Core.Path.{◌≡◌, refl, sym}
-use mathlib.Core.Option.{none}
-use Rattle.stores.specs.Lists.{first_in}
 use Rattle.index_rules.specs.Slots.{hit}
 use Rattle.index_laws.proofs.Keys.{window_bucket_lt, window_each}
-use Rattle.index_segment.specs.declared.probe.Hit.TheVariants.{Absent}
-use Rattle.index_segment.specs.Bucket.{has}
-use Rattle.index_segment.proofs.Search.{slots_before, window_before, no_slot_yet, no_bucket_yet, slot_passed, slot_hit, no_slot, bucket_passed, bucket_hit, slot_has, slot_has_not}
+use Rattle.index_segment.proofs.Search.{no_slot_yet, no_bucket_yet, slot_passed, slot_hit, no_slot, bucket_passed, bucket_hit, slot_has, slot_has_not}
 use Rattle.index_segment.proofs.probe.find.Goals as goal
 
 pub search-init : goal.search-init

@@ -3,11 +3,8 @@ use borrow.Author.Rules.{rules}
 use native.Mathlib.Omega.{arith}
 use mathlib.Core.Path.{◌≡◌, ◌∙◌}
 use mathlib.Core.List.{List, [], ◌∷◌}
-use Prim.Native.Nat.{ℕ, ◌+◌, ◌-◌, ◌≤◌}
-use lib.ListN.{length}
-use Rattle.stores.specs.Lists.{each}
+use Prim.Native.Nat.{ℕ}
 use Rattle.stores.specs.Store.{Store, store}
-use Rattle.stores.specs.Executed.{Executed}
 use Rattle.index_rules.specs.Layout.{key_address}
 use Rattle.stores.proofs.Loops.{before_loop, after_turn, executed_length}
 use Rattle.index_structure.proofs.empty.clear_keys.Goals as goal

@@ -24,7 +24,6 @@ segment_base-base-requires c = let s = shape _ _ c.requires.0 in (omega arith, o
 
 pub clear_keys-due-requires : goal.clear_keys-due-requires
 clear_keys-due-requires c =
-    
     let f = first_segment_fits _ _ _ c.requires.0 c.requires.1 in
     let e = c.store_word-due.ensures in
     let k = c.store_word-due-2.ensures in
@@ -35,9 +34,6 @@ pack_header-word-requires c = let s = shape _ _ c.requires.0 in (omega arith, om
 
 pub store_word-requires : goal.store_word-requires
 store_word-requires c =
-    
-    
-    
     let f = first_segment_fits _ _ _ c.requires.0 c.requires.1 in
     let e = c.store_word-due.ensures in
     let k = c.store_word-due-2.ensures in
@@ -48,7 +44,5 @@ store_word-requires c =
 
 pub returns : goal.returns
 returns c =
-    
-    
     format_stores_holds _ _ _ _ _ _ _ _ _ _ _ _ _ _ c.segment_base-base.ensures c.pack_header-word.ensures c.store_word-due.ensures
     c.store_word-due-2.ensures c.clear_keys-due.ensures c.store_word.ensures

@@ -1,5 +1,4 @@
 -- `index_structure::merge::both_live` meets its contract.
-use borrow.Author.Rules.{rules}
 use mathlib.Core.Path.{◌∙◌}
 use Rattle.index_layout.specs.Blocks.{shared}
 use Rattle.index_structure.proofs.Merges.{both_read}

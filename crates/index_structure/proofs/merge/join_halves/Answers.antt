@@ -1,5 +1,4 @@
 -- `index_structure::merge::join_halves` meets its contract.
-use borrow.Author.Rules.{rules}
 use native.Mathlib.Omega.{arith}
 use Rattle.index_structure.proofs.Merges.{pair_fits, mergeable, entries_ready, merge_made}
 use Rattle.index_structure.proofs.merge.join_halves.Goals as goal
@@ -17,7 +16,6 @@ join_entries-requires c =
 
 pub returns : goal.returns
 returns c =
-    
     let made =
     rw c.merging_of-merging.ensures at
     c.merge_slots-due.ensures in

@@ -1,5 +1,4 @@
 -- `index_structure::merge::merge` meets its contract.
-use borrow.Author.Rules.{rules}
 use mathlib.Core.Path.{refl, sym, ◌∙◌}
 use Rattle.index_structure.proofs.Merges.{pair_fits, mergeable, both_are, paired_none, pair_ready}
 use Rattle.index_structure.proofs.merge.merge.Goals as goal
@@ -33,8 +32,6 @@ join_halves-requires c =
 
 pub returns : goal.returns
 returns c =
-    
-    
     let pre = c.requires in
     let r =
     pair_ready pre.0 pre.1 c.find_pair.ensures

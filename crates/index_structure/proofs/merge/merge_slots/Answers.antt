@@ -1,12 +1,10 @@
 -- `index_structure::merge::merge_slots` meets its contract.
-use borrow.Author.Rules.{rules}
 use Rattle.index_layout.specs.Blocks.{shared}
 use Rattle.index_structure.proofs.Merges.{slots_made}
 use Rattle.index_structure.proofs.merge.merge_slots.Goals as goal
 
 pub returns : goal.returns
 returns c =
-    
     let u = c.args in
     let m = u.merging in
     let p = c.requires in

@@ -1,5 +1,4 @@
 -- `index_structure::merge::merging_of` meets its contract.
-use borrow.Author.Rules.{rules}
 use native.Mathlib.Omega.{arith}
 use Rattle.index_structure.proofs.merge.merging_of.Goals as goal
 

@@ -1,9 +1,6 @@
 -- `index_structure::read::read_segment` meets its contract. The invariant: the words so far are the segment's.
 use borrow.Author.Rules.{rules}
 use native.Mathlib.Omega.{arith}
-use mathlib.Core.Path.{◌≡◌}
-use Prim.Native.Nat.{◌-◌, ◌≤◌}
-use lib.ListN.{length, take, drop}
 use Rattle.index_structure.proofs.Copies.{copy_more, copy_all}
 use Rattle.index_structure.proofs.read.read_segment.Goals as goal
 

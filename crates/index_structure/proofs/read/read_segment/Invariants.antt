@@ -1,10 +1,7 @@
 -- `index_structure::read::read_segment` meets its contract. The invariant: the words so far are the segment's.
-use borrow.Author.Rules.{rules}
-use native.Mathlib.Omega.{arith}
 use mathlib.Core.Path.{◌≡◌}
 use Prim.Native.Nat.{◌-◌, ◌≤◌}
 use lib.ListN.{length, take, drop}
-use Rattle.index_structure.proofs.Copies.{copy_more, copy_all}
 use Rattle.index_structure.proofs.read.read_segment.Given as goal
 
 abbrev pub invariant-loop-i : goal.invariant-loop-i

@@ -17,6 +17,5 @@ split_into-requires c =
 
 pub returns : goal.returns
 returns c =
-    
     split_made c.requires (λ e. omega (arith, c.if-place-header.false)) c.free_segment.ensures c.in-Segment.is
     c.split_into.ensures

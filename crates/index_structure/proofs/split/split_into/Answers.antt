@@ -19,7 +19,6 @@ halve-requires c =
 
 pub returns-then-place-depth : goal.returns-then-place-depth
 returns-then-place-depth c =
-    
     split_doubled c.requires c.read_segment-old.ensures c.if-place-depth.true _ _ _ _ _ c.double-due.ensures c.halve.ensures
 
 pub halve-requires-2 : goal.halve-requires-2

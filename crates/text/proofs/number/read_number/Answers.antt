@@ -1,6 +1,6 @@
 -- `text::number::read_number` meets its contract. The invariant: what is still to be read behind `value` is the field's number.
 use mathlib.Core.Path.{◌≡◌, refl, sym, ap, ◌∙◌}
-use Prim.Native.Nat.{suc, ◌-◌, ◌≤◌}
+use Prim.Native.Nat.{suc}
 use lib.ListN.{length, get_or, drop}
 use native.Mathlib.Numerals.{add-one}
 use lib.Seq.{drop-cons}

@@ -1,7 +1,6 @@
 -- `text::output::write_four` meets its contract.
 use Prim.Native.Nat.{◌/◌, ◌%◌}
 use native.Mathlib.Omega.{arith}
-use borrow.Author.Rules.{rules}
 use Rattle.stores.proofs.Written.{written_append}
 use Rattle.text.specs.Number.{two_digits}
 use Rattle.text.proofs.output.write_four.Goals as goal
@@ -14,5 +13,4 @@ write_two-requires c = (omega arith, omega (arith, c.requires.1, c.write_two-nex
 
 pub returns : goal.returns
 returns c =
-    
     written_append (two_digits (c.args.n / 100)) (two_digits (c.args.n % 100)) _ _ _ _ _ _ (omega (arith, c.requires.1)) c.write_two-next.ensures c.write_two.ensures

@@ -2,7 +2,6 @@
 use Prim.Native.Nat.{◌%◌}
 use mathlib.Core.List.{[], ◌∷◌}
 use native.Mathlib.Omega.{arith}
-use borrow.Author.Rules.{rules}
 use Rattle.stores.proofs.Written.{written_append}
 use Rattle.text.specs.Number.{two_digits}
 use Rattle.text.proofs.Digits.{decimal_one, decimal_two, decimal_three, decimal_four, length_one_digit, length_two_digits, length_three_digits, length_four_digits}
@@ -26,16 +25,13 @@ write_byte-next-requires c =
     omega (arith, c.requires.1, length_three_digits c.args.n c.if-n-lt100.false c.if-n-lt1000.true)
 
 pub write_two-requires-then-n-lt1000 : goal.write_two-requires-then-n-lt1000
-write_two-requires-then-n-lt1000 c =
-    (
-      omega arith,
-      omega (arith, c.requires.1, length_three_digits c.args.n c.if-n-lt100.false c.if-n-lt1000.true, c.write_byte-next.ensures.behind),
-    )
+write_two-requires-then-n-lt1000 c = (
+  omega arith,
+  omega (arith, c.requires.1, length_three_digits c.args.n c.if-n-lt100.false c.if-n-lt1000.true, c.write_byte-next.ensures.behind),
+)
 
 pub returns-then-n-lt1000 : goal.returns-then-n-lt1000
 returns-then-n-lt1000 c =
-    
-    
     rw (decimal_three c.args.n c.if-n-lt100.false c.if-n-lt1000.true)
     (written_append (_ ∷ []) (two_digits (c.args.n % 100)) _ _ _ _ _ _ (omega (arith, c.requires.1)) c.write_byte-next.ensures c.write_two-then-n-lt1000.ensures)
 

@@ -1,7 +1,6 @@
 -- `text::output::write_two` meets its contract.
 use mathlib.Core.List.{[], ◌∷◌}
 use native.Mathlib.Omega.{arith}
-use borrow.Author.Rules.{rules}
 use Rattle.stores.proofs.Written.{written_append}
 use Rattle.text.proofs.output.write_two.Goals as goal
 

@@ -1,5 +1,5 @@
 -- So far the byte was not there: the index counted from the start is the index counted from here.
-use Rattle.std.proofs.Common.{◌≡◌, ◌+◌, ◌≤◌}
+use Rattle.std.proofs.Common.{◌≡◌, ◌+◌}
 use Rattle.std.proofs.Math.ListN.{take, drop}
 use Rattle.text.specs.Scan.{index_of}
 use Rattle.text.proofs.scan.find.Given as goal

@@ -1,9 +1,6 @@
 -- `text::script::next_line` meets its contract. The invariant: the lines from `from` on are those from `start` on.
-use mathlib.Core.Path.{◌≡◌, refl, ◌∙◌}
-use Prim.Native.Nat.{◌-◌, ◌≤◌}
-use lib.ListN.{length, drop}
+use mathlib.Core.Path.{refl, ◌∙◌}
 use borrow.Author.Rules.{rules}
-use Rattle.text.specs.Parts.{lines_of}
 use Rattle.text.proofs.Lines.{lines_skip, line_found, line_none}
 use Rattle.text.proofs.script.next_line.Goals as goal
 

@@ -1,10 +1,8 @@
 -- `text::script::next_line` meets its contract. The invariant: the lines from `from` on are those from `start` on.
-use mathlib.Core.Path.{◌≡◌, refl, ◌∙◌}
-use Prim.Native.Nat.{◌-◌, ◌≤◌}
+use mathlib.Core.Path.{◌≡◌}
+use Prim.Native.Nat.{◌≤◌}
 use lib.ListN.{length, drop}
-use borrow.Author.Rules.{rules}
 use Rattle.text.specs.Parts.{lines_of}
-use Rattle.text.proofs.Lines.{lines_skip, line_found, line_none}
 use Rattle.text.proofs.script.next_line.Given as goal
 
 abbrev pub invariant-loop-start : goal.invariant-loop-start
