@@ -179,7 +179,7 @@ class Reading:
                 return PLAIN
             case ["int", "w32", "0"]:
                 return ZERO
-            case ["int", _, _]:
+            case ["int" | "int_neg" | "int_big", _, _]:
                 return PLAIN
             case ["copy", place]:
                 return self.read(state, *self.place(place))
