@@ -1,8 +1,8 @@
--- What a call that changes the array says and leaves, by whether it is cut off; and plans behind tests.
-use mathlib.Core.Path.{◌≡◌, refl, ap}
-use mathlib.Core.List.{List}
+-- What a call that changes the array says and leaves, by whether it is cut off; plans behind tests; and refused effects.
+use mathlib.Core.Path.{◌≡◌, refl, sym, ap, ◌∙◌}
+use mathlib.Core.List.{List, []}
 use mathlib.Core.Option.{Option, none, some}
-use mathlib.Core.Logic.{◌⊎◌, inl, inr}
+use mathlib.Core.Logic.{◌⊎◌, inl, inr, ⊎_elim}
 use Prim.Native.Nat.{ℕ, ◌≤◌, ◌<◌}
 use native.Mathlib.Omega.{arith}
 use lib.ListN.{length}
@@ -13,6 +13,7 @@ use Rattle.stores.proofs.Plans.{cut_whole, cut_short}
 use Rattle.replies.specs.declared.Refusal.{Refusal}
 use Rattle.replies.specs.declared.Refusal.TheVariants.{CutOff}
 use Rattle.replies.specs.Replies.{Said, done, refused, refuse, tested, replied, changed}
+use Rattle.replies.specs.Effects.{Effect, changes, answers, carried_out, reply_by, due_by, Unchanged}
 
 -- ---- Cut off or not
 
@@ -87,3 +88,29 @@ pub tests_passed : (t : Option Refusal) (p : Plan Said) (v : List ℕ) → (test
 unfolding tested
 tests_passed none p v e = refl
 tests_passed (some r) p v e = absurd (refused_not_done _ v e)
+
+-- ---- Refused effects, which store nothing
+
+-- A call whose plan has no store where it says n.
+unchanged_by : (allowance : ℕ) (p : Plan Said) (a : List ℕ) (n : ℕ) → (changed allowance p a).reply ≡ refused n → (n ≡ 7 → ⊥)
+    → (p.reply ≡ refused n → p.due ≡ []) → Unchanged a (changed allowance p a)
+unfolding apply
+unchanged_by allowance p a n says not_cut empty =
+    ⊎_elim
+    (λ (c : Complete p a (changed allowance p a)).
+    let nothing : p.due ≡ [] = empty (sym c.reply ∙ says) in
+    record { after = c.after ∙ rw nothing; made = c.made ∙ rw nothing })
+    (λ (c : CutShort allowance p a (changed allowance p a)). absurd (not_cut (refused_inj (sym says ∙ c.reply))))
+    (changed_cases allowance p a)
+
+-- A plan behind tests that says no refusal of its own.
+pub tested_empty : (t : Option Refusal) (p : Plan Said) (n : ℕ) → (p.reply ≡ refused n → ⊥) → (tested t p).reply ≡ refused n → (tested t p).due ≡ []
+unfolding tested
+tested_empty none p n other says = absurd (other says)
+tested_empty (some r) p n other says = refl
+
+-- An effect that stores nothing where it says n.
+pub unchanged_carried : (e : Effect) (a : List ℕ) (n : ℕ) → (carried_out e a).reply ≡ refused n → (n ≡ 7 → ⊥)
+    → (reply_by e ≡ refused n → due_by e ≡ []) → Unchanged a (carried_out e a)
+unchanged_carried (changes allowance p) a n says not_cut empty = unchanged_by allowance p a n says not_cut empty
+unchanged_carried (answers w) a n e not_cut empty = record { after = refl; made = refl }

@@ -1,4 +1,4 @@
--- The numbers of the refusals, what counts as done and as damage, which replies are the same, calls cut off, and writings behind tests.
+-- The numbers of the refusals, what counts as done and as damage, which replies are the same, calls cut off, writings behind tests, and effects.
 -- antt computes each from the definitions.
 use Prim.Native.Nat.{ℕ}
 use mathlib.Core.Path.{◌≡◌, refl}
@@ -13,6 +13,7 @@ use Rattle.replies.specs.declared.Following.TheVariants.{Next, Last}
 use Rattle.stores.specs.Lists.{numbers_same}
 use Rattle.replies.specs.Replies.{number_of, Said, done, listed, absent, refused, is_done, is_refusal, says_damage, following_same, said_same, unless, tested, changed}
 use Rattle.replies.specs.Writing.{Writing, behind_tests}
+use Rattle.replies.specs.Effects.{changes, answers, carried_out, words_by}
 
 pub numbers : List ℕ
 numbers =
@@ -63,6 +64,13 @@ pub replies_told : all_told replies ≡ true
 unfolding replies told_from all_told numbers_same following_same said_same
 replies_told = refl
 
+-- An effect that changes the array under an allowance, and one that answers, which alone writes to a list array.
+effects : Bool
+effects =
+    gives (carried_out (changes 1 two) (0 ∷ 0 ∷ [])) (refused 7) 1 (5 ∷ 0 ∷ [])
+    && (gives (carried_out (answers written) (0 ∷ 0 ∷ [])) (done (2 ∷ [])) 0 (0 ∷ 0 ∷ [])
+    && (numbers_same (words_by (changes 1 two)) [] && numbers_same (words_by (answers written)) (5 ∷ 6 ∷ [])))
+
 pub sample : Bool
 sample =
     (is_done (done []) && (not (is_done absent) && (not (is_done (refused 7)) && (is_refusal 7 (refused 7) && not (is_refusal 7 (refused 8))))))
@@ -72,8 +80,8 @@ sample =
     && (gives (changed 0 two (0 ∷ 0 ∷ [])) (refused 7) 0 (0 ∷ 0 ∷ [])
     && gives (changed 0 (tested (unless true NoKey (unless false Broken (some Unmended))) two) (0 ∷ 0 ∷ [])) (refused 3) 0 (0 ∷ 0 ∷ [])
     && (writes (behind_tests (unless true ShortList none) written) (done (2 ∷ [])) (5 ∷ 6 ∷ [])
-    && writes (behind_tests (unless false ShortList none) written) (refused 10) [])))))
+    && (writes (behind_tests (unless false ShortList none) written) (refused 10) [] && effects))))))
 
 pub sample_passes : sample ≡ true
-unfolding sample told two gives written writes numbers_same following_same said_same unless tested behind_tests changed cut exec apply
+unfolding sample effects told two gives written writes numbers_same following_same said_same unless tested behind_tests changed cut exec apply
 sample_passes = refl

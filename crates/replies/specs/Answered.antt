@@ -1,9 +1,10 @@
 -- What the code has answered and left, against what a definition says and leaves.
-use Rattle.std.specs.Prelude.{ℕ, ◌≡◌, List}
+use Rattle.std.specs.Prelude.{ℕ, min, ◌≡◌, List, leb}
+use Rattle.stores.specs.Lists.{pick}
 use Rattle.stores.specs.Plan.{Outcome}
 use Rattle.stores.specs.Written.{at_front}
 use Rattle.replies.specs.declared.Answer.{Answer}
-use Rattle.replies.specs.Replies.{Said, said_by}
+use Rattle.replies.specs.Replies.{Said, refused, said_by}
 use Rattle.replies.specs.Writing.{Writing}
 
 -- The answer and the array afterwards are those of the outcome: what is said, the number of stores made, and every word.
@@ -17,3 +18,11 @@ pub record Wrote (w : Writing) (answer : Answer) (before after : List ℕ) : Typ
   pub reply : said_by answer.reply ≡ w.reply
   pub stores : answer.stores ≡ 0
   pub left : after ≡ at_front w.words before
+
+-- What an answer says behind stores of which `due` were due: the reply, or 7 where more were due than allowed.
+abbrev pub AfterStores : (r : Answer) (reply : Said) (allowance due : ℕ) → Type 0
+AfterStores r reply allowance due = (said_by r.reply ≡ pick (leb due allowance) reply (refused 7)) × (r.stores ≡ min allowance due)
+
+-- What an answer with no store says.
+abbrev pub Without : (r : Answer) (reply : Said) → Type 0
+Without r reply = (said_by r.reply ≡ reply) × (r.stores ≡ 0)

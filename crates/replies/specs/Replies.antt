@@ -2,6 +2,7 @@
 use Rattle.std.specs.Prelude.{ℕ, Bool, true, false, ◌&&◌, ◌||◌, List, [], ◌∷◌, eqb}
 use Rattle.std.proofs.Math.Option.{Option, none, some}
 use Rattle.stores.specs.Lists.{numbers_same}
+use Rattle.stores.specs.Store.{Store}
 use Rattle.stores.specs.Plan.{Plan, Outcome, reply_only, cut}
 use Rattle.replies.specs.declared.Refusal.{Refusal}
 use Rattle.replies.specs.declared.Refusal.TheVariants.{NoStore, NoKey, Broken, Unmended, TooDeep, NoSegment, CutOff, BadShape, TooShort, ShortList, BadYear, BadMonth, BadNumber, NoBuddy, BothLive, NoLeader}
@@ -98,6 +99,10 @@ refuse r = refused (number_of r)
 unfoldable pub unless : Bool → Refusal → Option Refusal → Option Refusal
 unless true r later = later
 unless false r later = some r
+
+-- The plan of these stores, and then done.
+abbrev pub done_after : List Store → Plan Said
+done_after ss = record { due = ss; reply = done [] }
 
 -- A plan behind tests: a refusal by the tests makes no store.
 unfoldable pub tested : Option Refusal → Plan Said → Plan Said

@@ -2,7 +2,8 @@
 #![tactic(auto)]
 
 ghost use Rattle.std.specs.Prelude.{◌≡◌};
-ghost use Rattle.replies.specs.Replies.{number_of};
+ghost use Rattle.replies.specs.Replies.{number_of, said_by};
+ghost use Rattle.replies.specs.Answered.{AfterStores};
 
 // Document 01, 'Replies that say no': the ten refusals, in the order of its table; and those that
 // document 02 adds, in the order of their numbers.
@@ -57,6 +58,20 @@ pub fn without_store(reply: Reply) -> Answer
     ensures { (result.reply ≡ reply) × (result.stores ≡ 0) }
 {
     Answer { reply, stores: 0 }
+}
+
+// The answer of a call of which `due` stores were due and `allowance` could be made: the reply, or cut
+// off where more were due than allowed.
+pub fn after_stores(reply: Reply, allowance: u32, due: u32) -> Answer
+    ensures { AfterStores result (said_by reply) allowance due }
+{
+    if allowance < due {
+        return Answer {
+            reply: Reply::Refused(Refusal::CutOff),
+            stores: allowance,
+        };
+    }
+    Answer { reply, stores: due }
 }
 
 // The number of a refusal.

@@ -21,7 +21,7 @@ const SEGMENT_WORDS: usize = 128;
 pub const SLOTS: u32 = 64;
 
 // What word 0 says, and whether it is sound. All fields are 0 where it is not.
-#[derive(Drop)]
+#[derive(Clone, Copy)]
 pub struct Shape {
     pub sound: bool,
     pub depth: u32,

@@ -5,7 +5,6 @@ use crate::listing::{collect_block, listed};
 use crate::outcomes::{DONE, NO_LEADER, Outcome, without_value};
 use crate::scan::{has_leader, tests_of_list};
 use crate::words::{CELLS, Cells};
-use std::num::wrapping_add_u32;
 
 // More than every index of a directory. A block is found by an index below it; the call's own may be any
 // number.
@@ -25,7 +24,7 @@ pub fn block_records(words: &Cells, length: usize, index: u64) -> Cells {
 
 // The index behind a block, or 0 at the directory's end.
 fn next_behind(block: Block) -> u64 {
-    let behind = wrapping_add_u32(block.start, block.width);
+    let behind = block.start.wrapping_add(block.width);
     if behind < power(block.depth) {
         behind as u64
     } else {

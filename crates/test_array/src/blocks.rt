@@ -4,11 +4,10 @@ ghost use Rattle.std.specs.Prelude.{◌≤◌};
 use crate::array::{Shape, entry_at, key_address, local_depth_of, power, segment_of, shape_of};
 use crate::route::index_at;
 use crate::words::{Cells, word_at};
-use std::num::wrapping_sub_u32;
 
 // A block: the depth and the largest depth of its array, the segment and the local depth that its entry
 // gives, its first index, its indices.
-#[derive(Drop)]
+#[derive(Clone, Copy)]
 pub struct Block {
     pub depth: u32,
     pub max_depth: u32,
@@ -38,7 +37,7 @@ pub fn block_at(words: &Cells, shape: Shape, index: u32) -> Block {
         max_depth: shape.max_depth,
         segment: segment_of(entry),
         local_depth,
-        start: wrapping_sub_u32(index, index % width),
+        start: index.wrapping_sub(index % width),
         width,
     }
 }

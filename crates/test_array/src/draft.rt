@@ -3,7 +3,6 @@
 // value.
 use crate::outcomes::{CUT_OFF, Outcome, without_value};
 use crate::words::{Cells, WORDS, set_word};
-use std::num::wrapping_add_usize;
 
 // Where the notes stand.
 const DUE: usize = WORDS;
@@ -32,7 +31,7 @@ pub fn note(draft: &mut Cells, at: usize, value: u64) {
 
 // Makes a record's two stores into the slot whose key is at this address: value, then key.
 pub fn note_record(draft: &mut Cells, at: usize, key: u64, value: u64) {
-    note(draft, wrapping_add_usize(at, 1), value);
+    note(draft, at.wrapping_add(1), value);
     note(draft, at, key);
 }
 

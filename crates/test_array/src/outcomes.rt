@@ -34,7 +34,7 @@ pub const ABSENT: u32 = 255;
 
 // What a call answers: its reply, the stores made, a get's value or a list's number of records, and what
 // follows a block that was listed: the next block's index, or 0, which is never one, behind the last.
-#[derive(Drop)]
+#[derive(Clone, Copy)]
 pub struct Outcome {
     pub reply: u32,
     pub stores: u32,

@@ -1,7 +1,6 @@
 // The way from a key to its index and its slots, and from a folded key back to the key.
 use crate::array::{SLOTS, power};
 use crate::blocks::Block;
-use std::num::wrapping_add_u32;
 
 // The buckets of a segment, and the slots of a bucket.
 const BUCKETS: u64 = 16;
@@ -36,7 +35,7 @@ pub fn index_at(key: u64, depth: u32) -> u32 {
     for number in 0..depth {
         let weight = power(depth - 1 - number);
         if route_bit(key, number) == 1 {
-            index = wrapping_add_u32(index, weight);
+            index = index.wrapping_add(weight);
         }
     }
     index

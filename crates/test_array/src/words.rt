@@ -1,7 +1,6 @@
 // The arrays of the test and of its model: all have one length, and keep it by their type. A read
 // outside the words of an index gives 0 and a store there does nothing, so that nothing needs a fact on
 // addresses; a store that is lost so shows as a difference.
-use std::num::wrapping_add_u64;
 
 // The most words of an index: those of the put with the most stores, and some behind.
 pub const WORDS: usize = 10000;
@@ -28,7 +27,7 @@ pub fn set_word(cells: &mut Cells, at: usize, value: u64) {
 
 // Puts a word behind those of a row. A row is an array whose word 0 says how many words follow it.
 pub fn append(row: &mut Cells, word: u64) {
-    let count = wrapping_add_u64(row[0], 1);
+    let count = row[0].wrapping_add(1);
     set_word(row, count as usize, word);
     row[0] = count;
 }

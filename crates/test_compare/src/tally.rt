@@ -2,7 +2,6 @@
 // on; the lines behind it say how often each reply came, with a number for each call. Behind the lines
 // stands how many words of the arrays are lent to a call.
 use crate::arrays::{Arrays, TALLY};
-use std::num::wrapping_add_u64;
 use test_array::outcomes::{ABSENT, BOTH_LIVE, NO_BUDDY, NO_LEADER, SHORT_LIST};
 
 // The places of a line: one for each call in the lines of replies, of which line 0 uses the first six.
@@ -53,7 +52,7 @@ pub(crate) const LENT: usize = COLUMNS * (REPLIES + 1);
 // Counts at a place of the lines; a column of line 0 is such a place.
 pub fn count(arrays: &mut Arrays, place: usize, amount: u64) {
     let at = place % LENT;
-    arrays[TALLY][at] = wrapping_add_u64(arrays[TALLY][at], amount);
+    arrays[TALLY][at] = arrays[TALLY][at].wrapping_add(amount);
 }
 
 // Begins a case: counts it, and lends the first words of the arrays to the calls that follow.

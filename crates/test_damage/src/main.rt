@@ -3,7 +3,8 @@
 // are made on it.
 #![tactic(auto)]
 
-use std::num::wrapping_add_u64;
+use std::io;
+use std::io::{BufWriter, Write};
 use test_array::array::{power, words_before};
 use test_array::route::unfolded;
 use test_array::words::{CELLS, Cells, WORDS, word_at};
@@ -34,7 +35,7 @@ const LEFT_STEPS: u32 = 158;
 const WORDS_BEHIND: usize = 8;
 
 // A saved run: its largest depth and segments, and its number.
-#[derive(Drop)]
+#[derive(Clone, Copy)]
 struct Setting {
     max_depth: u32,
     segments: u32,
@@ -189,7 +190,7 @@ fn damage_once(arrays: &mut Arrays, setting: Setting, roll: u64) {
 // One saved run and its damages.
 fn damage_base(arrays: &mut Arrays, setting: Setting) {
     prepare(&mut arrays[SAVED], setting);
-    let mut roll = from_seed(wrapping_add_u64(setting.number, 1));
+    let mut roll = from_seed(setting.number.wrapping_add(1));
     for _ in 0..DAMAGES {
         roll = next(roll);
         damage_once(arrays, setting, roll);
@@ -223,8 +224,10 @@ fn test_damage(arrays: &mut Arrays) {
 }
 
 // The family, then its table.
-fn main() {
+fn main(rt: HostRuntime) -> io::Result<()> {
     let mut arrays = [[0u64; CELLS]; ARRAYS];
     test_damage(&mut arrays);
-    write_table(&arrays[TALLY], b"3 damage      ");
+    let mut out = BufWriter::new(rt.alloc(), io::writer(&rt))?;
+    write_table(&mut out, &arrays[TALLY], b"3 damage      ")?;
+    out.flush()
 }

@@ -2,12 +2,14 @@
 // and the output that it must give.
 #![tactic(auto)]
 
-ghost use Rattle.std.specs.Prelude.{◌≤◌};
-ghost use Rattle.io.specs.Counts.{IsPrefixLen};
+ghost use Rattle.std.specs.Prelude.{◌≡◌, ◌≤◌, length, take};
 
 use desk_run::OUTPUT_BYTES;
-use libc::STDOUT_FILENO;
-use std::num::wrapping_add_u64;
+use intake::read_full;
+use std::fs::File;
+use std::io::{BufWriter, Write};
+use std::rt::Files;
+use std::{env, io};
 
 // A file that fills its buffer counts as not read.
 const SCRIPT_BYTES: usize = 32768;
@@ -35,96 +37,109 @@ fn gives(script: &[u8], expected: &[u8]) -> bool {
 }
 
 // Writes a tab and a number.
-fn write_field(number: u64) {
-    io::write_all(STDOUT_FILENO, b"\t");
-    io::print_decimal(STDOUT_FILENO, number);
+fn write_field<W: Write>(out: &mut W, number: u64) -> io::Result<()> {
+    write!(out, "\t{number}")
 }
 
 // Runs the script, and writes the rest of its line.
-fn test_script(script: &[u8], expected: &[u8]) -> bool {
-    write_field(script.len() as u64);
-    write_field(expected.len() as u64);
+fn test_script<W: Write>(out: &mut W, script: &[u8], expected: &[u8]) -> io::Result<bool> {
+    write_field(out, script.len() as u64)?;
+    write_field(out, expected.len() as u64)?;
     let is_same = gives(script, expected);
-    if is_same {
-        io::write_all(STDOUT_FILENO, b"\tsame\n");
-    } else {
-        io::write_all(STDOUT_FILENO, b"\tDIFFERS\n");
-    }
-    is_same
+    let verdict = if is_same { "same" } else { "DIFFERS" };
+    writeln!(out, "\t{verdict}")?;
+    Ok(is_same)
 }
 
 // Reads the file into the buffer, and answers its bytes: the buffer's length where it cannot be
-// opened.
-fn read_file(path: &[u8], buf: &mut [u8]) -> usize
-    ensures { IsPrefixLen result buf.new }
+// opened or read.
+fn read_file<F: Files>(files: &F, path: &str, buf: &mut [u8]) -> usize
+    ensures within { result ≤ length buf.new }
+    ensures prefix { result ≡ length (take result buf.new) }
 {
-    let fd = os::open_read(path);
-    if fd < 0 {
+    let Ok(mut file) = File::open(files, path) else {
         return buf.len();
+    };
+    match read_full(&mut file, buf) {
+        Ok(size) => size,
+        Err(_) => buf.len(),
     }
-    let size = io::read_full(fd, buf);
-    libc::close(fd);
-    size
 }
 
-// Reads the file that an argument names.
-fn read_argument(number: usize, buf: &mut [u8]) -> usize
-    ensures { IsPrefixLen result buf.new }
+// Reads the file that an argument names. An argument that is missing names none.
+fn read_argument<F: Files>(files: &F, arguments: &[String], number: usize, buf: &mut [u8]) -> usize
+    ensures within { result ≤ length buf.new }
+    ensures prefix { result ≡ length (take result buf.new) }
 {
-    let mut path = io::buffer();
-    let size = os::arg(number, &mut path);
-    read_file(&path[..size], buf)
+    match arguments.get(number) {
+        Some(path) => read_file(files, path.as_str(), buf),
+        None => buf.len(),
+    }
 }
 
 // Writes an argument.
-fn write_argument(number: usize) {
-    let mut text = io::buffer();
-    let size = os::arg(number, &mut text);
-    io::write_all(STDOUT_FILENO, &text[..size]);
+fn write_argument<W: Write>(out: &mut W, arguments: &[String], number: usize) -> io::Result<()> {
+    match arguments.get(number) {
+        Some(text) => out.write_all(text.as_bytes()),
+        None => Ok(()),
+    }
 }
 
 // Tests the script that one argument names against the output that another names, and writes a line.
-fn test_pair(script_number: usize, expected_number: usize) -> bool {
+fn test_pair<F: Files, W: Write>(
+    files: &F,
+    out: &mut W,
+    arguments: &[String],
+    script_number: usize,
+    expected_number: usize,
+) -> io::Result<bool> {
     let mut script = [0u8; SCRIPT_BYTES];
     let mut expected = [0u8; EXPECTED_BYTES];
-    let script_size = read_argument(script_number, &mut script);
-    let expected_size = read_argument(expected_number, &mut expected);
-    write_argument(script_number);
+    let script_size = read_argument(files, arguments, script_number, &mut script);
+    let expected_size = read_argument(files, arguments, expected_number, &mut expected);
+    write_argument(out, arguments, script_number)?;
     if script_size == SCRIPT_BYTES || expected_size == EXPECTED_BYTES {
-        io::write_all(STDOUT_FILENO, b"\tnot read\n");
-        return false;
+        writeln!(out, "\tnot read")?;
+        return Ok(false);
     }
-    test_script(&script[..script_size], &expected[..expected_size])
+    test_script(out, &script[..script_size], &expected[..expected_size])
 }
 
 // The scripts tested, and those that gave the expected output.
-#[derive(Drop)]
+#[derive(Clone, Copy)]
 struct Tally {
     scripts: u64,
     same: u64,
 }
 
 // Tests each pair of arguments.
-fn test_pairs(pairs: usize) -> Tally
+fn test_pairs<F: Files, W: Write>(
+    files: &F,
+    out: &mut W,
+    arguments: &[String],
+    pairs: usize,
+) -> io::Result<Tally>
     requires { pairs ≤ 9223372036854775807 }
 {
     let mut scripts: u64 = 0;
     let mut same: u64 = 0;
     for pair in 0..pairs {
-        scripts = wrapping_add_u64(scripts, 1);
-        if test_pair(2 * pair + 1, 2 * pair + 2) {
-            same = wrapping_add_u64(same, 1);
+        scripts = scripts.wrapping_add(1);
+        if test_pair(files, out, arguments, 2 * pair + 1, 2 * pair + 2)? {
+            same = same.wrapping_add(1);
         }
     }
-    Tally { scripts, same }
+    Ok(Tally { scripts, same })
 }
 
 // The first argument is the program's name. A script with no output named counts as a pair: its
 // output is not read.
-fn main() {
-    let tally = test_pairs(os::arg_count() / 2);
-    io::print_decimal(STDOUT_FILENO, tally.scripts);
-    io::write_all(STDOUT_FILENO, b" scripts, ");
-    io::print_decimal(STDOUT_FILENO, tally.same);
-    io::write_all(STDOUT_FILENO, b" the same\n");
+fn main(rt: HostRuntime) -> io::Result<()> {
+    let arguments: Vec<String> = env::args(&rt)?.collect(rt.alloc())?;
+    let mut out = BufWriter::new(rt.alloc(), io::writer(&rt))?;
+    let tally = test_pairs(&rt, &mut out, &arguments, arguments.len() / 2)?;
+    let scripts = tally.scripts;
+    let same = tally.same;
+    writeln!(out, "{scripts} scripts, {same} the same")?;
+    out.flush()
 }

@@ -5,9 +5,10 @@
 
 mod reading;
 
-use libc::STDIN_FILENO;
+use intake::read_full;
 use reading::{AT_LETTER, COLUMNS, DUE, Place, Row, take_in_line};
-use std::num::wrapping_add_u64;
+use std::io;
+use std::io::{BufWriter, Read, Write};
 use test_array::array::words_before;
 use test_array::outcomes::{DONE, Outcome, TOO_SHORT};
 use test_array::words::{CELLS, Cells, set_word, word_at};
@@ -80,7 +81,7 @@ fn fill(arrays: &mut Arrays, segments: u32, first: u64, step: u64) {
     let mut key = first;
     for _ in 0..WINDOW {
         compare(arrays, Call::Put(key, value_for(key), ALLOWANCE));
-        key = wrapping_add_u64(key, step);
+        key = key.wrapping_add(step);
     }
 }
 
@@ -92,7 +93,7 @@ fn is_filled(words: &Cells, slot: usize, first: u64, step: u64) -> bool {
         if word_at(words, at) != key {
             return false;
         }
-        key = wrapping_add_u64(key, step);
+        key = key.wrapping_add(step);
     }
     true
 }
@@ -253,17 +254,20 @@ fn state_k(arrays: &mut Arrays) {
 }
 
 // The states of the text, which must have ended within the array, and k.
-fn test_known(arrays: &mut Arrays) {
+fn test_known<R: Read>(arrays: &mut Arrays, input: &mut R) -> io::Result<()> {
     let mut text = [0u8; TEXT_BYTES];
-    let size = io::read_full(STDIN_FILENO, &mut text);
+    let size = read_full(input, &mut text)?;
     expect(arrays, size < TEXT_BYTES);
     take_rows(arrays, &text);
     state_k(arrays);
+    Ok(())
 }
 
 // The family, then its table.
-fn main() {
+fn main(rt: HostRuntime) -> io::Result<()> {
     let mut arrays = [[0u64; CELLS]; ARRAYS];
-    test_known(&mut arrays);
-    write_table(&arrays[TALLY], b"1 known states");
+    test_known(&mut arrays, &mut rt.reader())?;
+    let mut out = BufWriter::new(rt.alloc(), io::writer(&rt))?;
+    write_table(&mut out, &arrays[TALLY], b"1 known states")?;
+    out.flush()
 }

@@ -1,7 +1,6 @@
 // Rows of numbers from a text. A row is a line: a letter, and numbers with one space before each, in decimal
 // digits, or in upper-case hexadecimal ones behind 0x. The numbers behind `=` stand in the last columns. From `#` on
 // a line is a comment.
-use std::num::wrapping_add_u64;
 
 // The columns of a row: the letter, the numbers, and from this one on the two that are due.
 pub(crate) const COLUMNS: usize = 8;
@@ -14,7 +13,7 @@ pub(crate) type Row = [u64; COLUMNS];
 const UNREADABLE: u64 = 1;
 
 // Where a row is read: the column, and whether its digits are hexadecimal. A comment has the column behind the last.
-#[derive(Drop)]
+#[derive(Clone, Copy)]
 pub(crate) struct Place {
     column: usize,
     is_hexadecimal: bool,
@@ -43,7 +42,7 @@ fn add_digit(row: &mut Row, place: Place, digit: u64) -> Place {
     } else {
         before * 10
     };
-    row[column] = wrapping_add_u64(weighed, digit);
+    row[column] = weighed.wrapping_add(digit);
     place
 }
 

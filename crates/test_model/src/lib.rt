@@ -32,7 +32,7 @@ pub const ALL_STORES: u32 = 4294967295;
 // A call: a format with D and S, a get with its key, a put with key and value, a remove and a merge with
 // their key, a mend, a list with the words of its list array, a list of one block with its directory index
 // and the words of its list array. Those that store have their allowance last.
-#[derive(Drop)]
+#[derive(Clone, Copy)]
 pub enum Call {
     Format(u64, u64, u32),
     Get(u64),

@@ -1,6 +1,5 @@
 // The plan of a merge (document 02, wish 6): the key's block and its buddy become the block one depth
 // shallower, in the left segment.
-use std::num::{wrapping_add_u32, wrapping_sub_u32};
 use test_array::array::{SLOTS, entry_address, entry_of, key_address, shape_of};
 use test_array::blocks::{Block, block_at, block_of, key_in, value_in};
 use test_array::draft::{note, note_record};
@@ -57,9 +56,9 @@ fn merge_slot(draft: &mut Cells, before: &Cells, left: Block, right: Block, slot
 
 // Gives the entries of both halves, the left one first, one word, from left to right.
 fn join_entries(draft: &mut Cells, left: Block, entry: u64) {
-    let count = wrapping_add_u32(left.width, left.width);
+    let count = left.width.wrapping_add(left.width);
     for passed in 0..count {
-        let index = wrapping_add_u32(left.start, passed);
+        let index = left.start.wrapping_add(passed);
         note(draft, entry_address(left.depth, index), entry);
     }
 }
@@ -71,7 +70,7 @@ fn join(draft: &mut Cells, left: Block, right: Block) {
     for slot in 0..SLOTS {
         merge_slot(draft, &before, left, right, slot);
     }
-    let entry = entry_of(left.segment, wrapping_sub_u32(left.local_depth, 1));
+    let entry = entry_of(left.segment, left.local_depth.wrapping_sub(1));
     join_entries(draft, left, entry);
 }
 

@@ -1,5 +1,4 @@
 // The split of a segment, as stores on the draft.
-use std::num::{wrapping_add_u32, wrapping_add_u64};
 use test_array::array::{
     SLOTS, entry_address, entry_at, entry_of, key_address, power, segment_of, shape_of,
 };
@@ -40,14 +39,14 @@ pub(crate) fn free_number(words: &Cells, length: usize) -> u32 {
 // Doubles the directory of this depth (split, step 2): its entries, rising, of which entry e gets the entry
 // floor(e / 2) of before, and then word 0, whose lowest bits hold G: with one more it has G + 1.
 pub(crate) fn double(draft: &mut Cells, depth: u32) {
-    let deeper = wrapping_add_u32(depth, 1);
+    let deeper = depth.wrapping_add(1);
     let count = power(deeper);
     for index in 0..count {
         let entry = entry_at(draft, depth, index / 2);
         note(draft, entry_address(deeper, index), entry);
     }
     let first = word_at(draft, 0);
-    note(draft, 0, wrapping_add_u64(first, 1));
+    note(draft, 0, first.wrapping_add(1));
 }
 
 // One slot of the copy step (split, step 3): a live record whose route bit number L is 1 goes to the
@@ -67,14 +66,14 @@ fn copy_slot(draft: &mut Cells, block: Block, new_segment: u32, slot: u32) {
 // The entries of a block (split, step 4), from right to left: the right half gets the new segment, then the
 // left half the old one, both one deeper.
 fn halve(draft: &mut Cells, block: Block, new_segment: u32) {
-    let deeper = wrapping_add_u32(block.local_depth, 1);
+    let deeper = block.local_depth.wrapping_add(1);
     for passed in 0..block.width {
         let segment = if passed < block.width / 2 {
             new_segment
         } else {
             block.segment
         };
-        let index = wrapping_add_u32(block.start, block.width - 1 - passed);
+        let index = block.start.wrapping_add(block.width - 1 - passed);
         note(
             draft,
             entry_address(block.depth, index),

@@ -1,5 +1,4 @@
 // Random damage to an array: one place is spoiled, as word 0, an entry or a slot.
-use std::num::{wrapping_add_u64, wrapping_sub_u64};
 use test_array::array::{
     LOCAL_DEPTH_UNIT, MAX_DEPTH_UNIT, SEGMENTS_UNIT, entry_address, entry_at, power, words_before,
 };
@@ -17,7 +16,7 @@ fn below(roll: u64, bound: u32) -> u32 {
 }
 
 // The fields of word 0.
-#[derive(Drop)]
+#[derive(Clone, Copy)]
 pub struct Shape {
     depth: u32,
     max_depth: u32,
@@ -36,13 +35,13 @@ pub fn shape_in(first: u64) -> Shape {
 // Word 0 with one field more or less by one, of which the mark becomes document 01's, or another word.
 fn spoiled_first(first: u64, roll: u64) -> u64 {
     match roll % 10 {
-        0 => wrapping_add_u64(first, 1),
-        1 => wrapping_sub_u64(first, 1),
-        2 => wrapping_add_u64(first, MAX_DEPTH_UNIT),
-        3 => wrapping_sub_u64(first, MAX_DEPTH_UNIT),
-        4 => wrapping_add_u64(first, SEGMENTS_UNIT),
-        5 => wrapping_sub_u64(first, SEGMENTS_UNIT),
-        6 => wrapping_sub_u64(first, UPPER_HALF),
+        0 => first.wrapping_add(1),
+        1 => first.wrapping_sub(1),
+        2 => first.wrapping_add(MAX_DEPTH_UNIT),
+        3 => first.wrapping_sub(MAX_DEPTH_UNIT),
+        4 => first.wrapping_add(SEGMENTS_UNIT),
+        5 => first.wrapping_sub(SEGMENTS_UNIT),
+        6 => first.wrapping_sub(UPPER_HALF),
         7 => first % SEGMENTS_UNIT + first / UPPER_HALF % UPPER_HALF * UPPER_HALF,
         8 => first / MAX_DEPTH_UNIT * MAX_DEPTH_UNIT + roll / 16 % 14,
         _ => roll,
@@ -55,13 +54,13 @@ fn spoiled_entry(entry: u64, other: u64, shape: Shape, roll: u64) -> u64 {
     let depths = entry / UPPER_HALF * UPPER_HALF;
     let segment = below(roll / 65536, shape.segments) as u64;
     match roll % 8 {
-        0 => wrapping_add_u64(entry, UPPER_HALF),
-        1 => wrapping_sub_u64(entry, UPPER_HALF),
-        2 => wrapping_add_u64(entry, 1),
+        0 => entry.wrapping_add(UPPER_HALF),
+        1 => entry.wrapping_sub(UPPER_HALF),
+        2 => entry.wrapping_add(1),
         3 => other,
-        4 => wrapping_add_u64(depths, shape.segments as u64),
+        4 => depths.wrapping_add(shape.segments as u64),
         5 => (shape.depth as u64 % 256 + 1) * UPPER_HALF + entry % UPPER_HALF,
-        6 => wrapping_add_u64(depths, segment),
+        6 => depths.wrapping_add(segment),
         _ => below(roll / 4096, shape.depth % 256 + 1) as u64 * UPPER_HALF + segment,
     }
 }
@@ -100,7 +99,7 @@ fn spoil_slot(words: &mut Cells, stray: u64, shape: Shape, roll: u64) {
     };
     let at = base + 2 * slot;
     set_word(words, at, spoiled);
-    set_word(words, at + 1, wrapping_add_u64(value, 1));
+    set_word(words, at + 1, value.wrapping_add(1));
 }
 
 // Spoils one place of an array, or none.

@@ -1,6 +1,5 @@
 // Random runs: a run's keys, which stand in the plain table, and its calls.
 use crate::generator::{from_seed, next, own_part};
-use std::num::{wrapping_add_u32, wrapping_add_usize};
 use test_array::array::power;
 use test_array::block_listing::block_records;
 use test_array::blocks::{Block, block_of};
@@ -61,7 +60,7 @@ fn size_of(table: &Cells) -> usize {
     let mut size: usize = 0;
     for number in 0..KEYS {
         if word_at(table, ENTRY_WORDS * number + 1) != 0 {
-            size = wrapping_add_usize(size, 1);
+            size = size.wrapping_add(1);
         }
     }
     size
@@ -108,8 +107,8 @@ fn index_beyond(block: Block, roll: u64) -> u64 {
 fn index_for(block: Block, roll: u64) -> u64 {
     match roll % 8 {
         0..=2 => block.start as u64,
-        3 => wrapping_add_u32(block.start, block.width / 2) as u64,
-        4 => wrapping_add_u32(block.start, block.width) as u64,
+        3 => block.start.wrapping_add(block.width / 2) as u64,
+        4 => block.start.wrapping_add(block.width) as u64,
         5..=6 => roll / 8 % 8,
         _ => index_beyond(block, roll / 8),
     }

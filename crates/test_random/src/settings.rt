@@ -5,7 +5,7 @@ use test_array::array::power;
 const RUNS_PER_DEPTH: u32 = 32;
 
 // A run: its largest depth and segments, and its first random number.
-#[derive(Drop)]
+#[derive(Clone, Copy)]
 pub struct Setting {
     pub max_depth: u32,
     pub segments: u32,

@@ -10,6 +10,8 @@ mod parts;
 mod table;
 
 use parts::compare_parts;
+use std::io;
+use std::io::{BufWriter, Write};
 use table::look_up_all;
 use test_array::array::words_before;
 use test_array::outcomes::{CUT_OFF, DONE};
@@ -174,8 +176,10 @@ fn test_runs(arrays: &mut Arrays) {
 }
 
 // The family, then its table.
-fn main() {
+fn main(rt: HostRuntime) -> io::Result<()> {
     let mut arrays = [[0u64; CELLS]; ARRAYS];
     test_runs(&mut arrays);
-    write_table(&arrays[TALLY], b"2 runs        ");
+    let mut out = BufWriter::new(rt.alloc(), io::writer(&rt))?;
+    write_table(&mut out, &arrays[TALLY], b"2 runs        ")?;
+    out.flush()
 }

@@ -6,7 +6,8 @@
 // it takes 128 words.
 #![tactic(auto)]
 
-use std::num::{wrapping_add_u32, wrapping_add_u64};
+use std::io;
+use std::io::{BufWriter, Write};
 use test_array::array::power;
 use test_array::outcomes::{DONE, SHORT_LIST};
 use test_array::route::unfolded;
@@ -64,7 +65,7 @@ fn merge_met() -> Call {
 fn fill_segment(arrays: &mut Arrays, added: u64) {
     for i in 0..64 {
         let folded = i / 16 * 65536 + MET_FOLDED + i % 16;
-        let value = wrapping_add_u64(folded, added);
+        let value = folded.wrapping_add(added);
         compare(arrays, Call::Put(unfolded(folded), value, ALL_STORES));
     }
 }
@@ -90,7 +91,7 @@ fn cut_worst(arrays: &mut Arrays, call: Call, allowance: u32) {
 // A call with every allowance around a border.
 fn cut_around(arrays: &mut Arrays, call: Call, border: u32) {
     for offset in 0..AROUND {
-        let allowance = wrapping_add_u32(border, offset);
+        let allowance = border.wrapping_add(offset);
         if REACH <= allowance {
             cut_worst(arrays, call, allowance - REACH);
         }
@@ -100,9 +101,9 @@ fn cut_around(arrays: &mut Arrays, call: Call, border: u32) {
 // The borders of one split: behind the doubling, the copy step and the entry update. It answers the
 // stores due at its end.
 fn cut_split(arrays: &mut Arrays, split: u32, due: u32) -> u32 {
-    let doubled = wrapping_add_u32(due, 2 * power(split) + 1);
-    let copied = wrapping_add_u32(doubled, COPY_STORES);
-    let updated = wrapping_add_u32(copied, UPDATE_STORES);
+    let doubled = due.wrapping_add(2 * power(split) + 1);
+    let copied = doubled.wrapping_add(COPY_STORES);
+    let updated = copied.wrapping_add(UPDATE_STORES);
     cut_around(arrays, worst_put(), doubled);
     cut_around(arrays, worst_put(), copied);
     cut_around(arrays, worst_put(), updated);
@@ -115,7 +116,7 @@ fn cut_splits(arrays: &mut Arrays) {
     for split in 0..SPLITS {
         due = cut_split(arrays, split, due);
     }
-    expect(arrays, wrapping_add_u32(due, 2) == WORST_PUT_STORES);
+    expect(arrays, due.wrapping_add(2) == WORST_PUT_STORES);
 }
 
 // A whole call, with its number of stores.
@@ -141,7 +142,7 @@ fn list_blocks(arrays: &mut Arrays) {
     for _ in 0..SPLITS {
         let seen = compare(arrays, Call::ListBlock(index, BLOCK_WORDS));
         index = seen.next;
-        records = wrapping_add_u64(records, seen.value);
+        records = records.wrapping_add(seen.value);
     }
     expect(arrays, index == MET_INDEX && records == 1);
     list_largest(arrays, index);
@@ -190,9 +191,11 @@ fn test_merge(arrays: &mut Arrays) {
 }
 
 // The family, then its table.
-fn main() {
+fn main(rt: HostRuntime) -> io::Result<()> {
     let mut arrays = [[0u64; CELLS]; ARRAYS];
     test_put(&mut arrays);
     test_merge(&mut arrays);
-    write_table(&arrays[TALLY], b"4 most stores ");
+    let mut out = BufWriter::new(rt.alloc(), io::writer(&rt))?;
+    write_table(&mut out, &arrays[TALLY], b"4 most stores ")?;
+    out.flush()
 }
