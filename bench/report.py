@@ -159,7 +159,7 @@ def desk_table(root):
     rows = ["| Script of 16,384 bytes | desk | a process that does nothing |", "|---|---|---|"]
     for name in ["full_0", "full_1", "full_2", "full_3", "full_of_lists"]:
         script = root / "crates/test_desk/data" / f"{name}.in"
-        desk = process_times([str(root / "target/bin/desk")], script, 50)
+        desk = process_times([str(root / "crates/desk/out/desk")], script, 50)
         nothing = process_times(["true"], script, 50)
         rows.append(f"| {name} | {shown(desk)} | {shown(nothing)} |")
     return "\n".join(rows)

@@ -1,10 +1,14 @@
 # What tests/edits and tests/faults share: a copy of the crates, and the replacements of an edit.
 import shutil
+from pathlib import Path
 
 
 def copied(source, to):
-    """The crates of the repository at `source`, in a folder of their own."""
-    shutil.copytree(source / "crates", to / "crates")
+    """The crates of the repository at `source`, in a folder of their own, without what checks left there."""
+    def left_out(folder, _):
+        return ["out"] if Path(folder).parent == source / "crates" else []
+
+    shutil.copytree(source / "crates", to / "crates", ignore=left_out)
     shutil.copy(source / "crates.txt", to)
 
 

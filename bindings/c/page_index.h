@@ -2,7 +2,7 @@
  * The page index: image numbers (keys) and the places of their scans (values) in an array of 64-bit words
  * that keeps its contents when the power goes.
  *
- * Link with libpage_index.a (`rt staticlib page_index` writes it to target/staticlib), for x86-64 Linux:
+ * Link with libpage_index.a (`tools/archive` writes it to target/staticlib), for x86-64 Linux:
  *
  *     cc -std=c99 -I bindings/c program.c target/staticlib/libpage_index.a -o program
  *

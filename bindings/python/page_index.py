@@ -2,7 +2,7 @@
 words that keeps its contents when the power goes.
 
 It calls the library of bindings/c/page_index.h by ctypes, and needs the folder bindings/python in
-PYTHONPATH and the library as libpage_index.so. `rt staticlib page_index` writes the archive of the library.
+PYTHONPATH and the library as libpage_index.so. `tools/archive` writes the archive of the library.
 This command, at the root of the repository, makes libpage_index.so of it, and is run again whenever the
 archive was written anew:
 
@@ -191,7 +191,7 @@ def _load():
     except OSError as error:
         raise ImportError(
             f"page_index cannot load {path}, which two commands at the root of the repository make, "
-            "`rt staticlib page_index` and then `gcc -shared -o target/staticlib/libpage_index.so "
+            "`tools/archive` and then `gcc -shared -o target/staticlib/libpage_index.so "
             "-Wl,--whole-archive target/staticlib/libpage_index.a -Wl,--no-whole-archive`, "
             "and which is looked for in another folder where PAGE_INDEX_LIB names one."
         ) from error

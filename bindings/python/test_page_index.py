@@ -612,7 +612,7 @@ class Start(Folder):
                 "target/staticlib/libpage_index.a -Wl,--no-whole-archive")
         self.assertEqual(done.returncode, 1)
         self.assertTrue(said.startswith("ImportError: "), said)
-        for part in (str(self.folder / "libpage_index.so"), "`rt staticlib page_index`", make, "PAGE_INDEX_LIB"):
+        for part in (str(self.folder / "libpage_index.so"), "`tools/archive`", make, "PAGE_INDEX_LIB"):
             self.assertIn(part, said)
         self.assertIn(f"\n    {make}\n", page_index.__doc__)
 

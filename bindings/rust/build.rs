@@ -1,4 +1,4 @@
-//! Links libpage_index.a, which `rt staticlib page_index` writes to target/staticlib. The variable
+//! Links libpage_index.a, which `tools/archive` writes to target/staticlib. The variable
 //! PAGE_INDEX_LIB names another folder. Where the archive is missing, the build ends with one sentence.
 use std::env;
 use std::path::PathBuf;
@@ -11,7 +11,7 @@ fn main() {
     println!("cargo:rerun-if-changed={}", archive.display());
     if !archive.is_file() {
         println!(
-            "cargo::error=there is no {}: make it by `rt staticlib page_index` at the root of the repository, or set \
+            "cargo::error=there is no {}: make it by `tools/archive` in the repository, or set \
              PAGE_INDEX_LIB to the folder that has libpage_index.a",
             archive.display()
         );

@@ -1,63 +1,47 @@
 # The exported functions of the library, read from their sources: the promise of each stands here a second time, so that none
 # can be changed, weakened or left out unseen. A proof shows that a function keeps its promise, whatever it is.
-import re
+from tokens import NotUnderstood
 
-from mir import NotUnderstood
-
-# W and W' are the words before and behind the call; likewise of what else is lent.
+LIBRARY = "page_index"
 PROMISES = {
-    "page_index_format": "Told (outcomeOf W (Format depth segments allowance)) r W'",
-    "page_index_get": "Told (outcomeOf W (Get key)) r W",
-    "page_index_put": "Told (outcomeOf W (Put key value allowance)) r W'",
-    "page_index_remove": "Told (outcomeOf W (Remove key allowance)) r W'",
-    "page_index_merge": "Told (outcomeOf W (Merge key allowance)) r W'",
-    "page_index_mend": "Told (outcomeOf W (Mend allowance)) r W'",
-    "page_index_list": "ToldWriting (listing W (length LIST)) r LIST LIST'",
-    "page_index_list_block": "ToldBlock W index r LIST LIST' NEXT NEXT'",
-    "month_board_set": "Told (setJob W year month number pages allowance) r W'",
-    "month_board_read": "Told (readJob W year month number) r W",
-    "month_board_remove": "Told (removeJob W year month number allowance) r W'",
-    "month_board_print": "ToldWriting (printYear W year (length BUFFER)) r BUFFER BUFFER'",
+    "page_index_format": "Told (outcome_of words.old (Format depth segments allowance)) result words.new",
+    "page_index_get": "Told (outcome_of words.now (Get key)) result words.now",
+    "page_index_put": "Told (outcome_of words.old (Put key value allowance)) result words.new",
+    "page_index_remove": "Told (outcome_of words.old (Remove key allowance)) result words.new",
+    "page_index_merge": "Told (outcome_of words.old (Merge key allowance)) result words.new",
+    "page_index_mend": "Told (outcome_of words.old (Mend allowance)) result words.new",
+    "page_index_list": "ToldWriting (listing words.now (length list.old)) result list.old list.new",
+    "page_index_list_block": "ToldBlock words.now index result list.old list.new next.old next.new",
+    "month_board_set": "Told (set_job words.old year month number pages allowance) result words.new",
+    "month_board_read": "Told (read_job words.now year month number) result words.now",
+    "month_board_remove": "Told (remove_job words.old year month number allowance) result words.new",
+    "month_board_print": "ToldWriting (print_year words.now year (length buffer.old)) result buffer.old buffer.new",
 }
-LENT = {"words": "W", "list": "LIST", "next": "NEXT", "buffer": "BUFFER"}
-
-# Name, parameters, answer and clauses of a function, up to its body.
-FUNCTION = re.compile(r'extern "C" fn (\w+)\(([^)]*)\) -> (\w+)\s*((?:(?:requires|ensures) \{[^\n]*\}\s*)*)\{', re.S)
-
-
-def parameters(text):
-    """Names and types of the parameters, in order."""
-    return [tuple(part.strip() for part in parameter.split(":")) for parameter in text.split(",") if parameter.strip()]
 
 
 def promise(clauses):
-    """The one clause, with short names for what is lent."""
-    found = re.fullmatch(r"ensures \{ λ r\. ⌜ (.*) ⌝ \}", clauses.strip())
-    if found is None:
-        return clauses.strip() or "nothing"
-    return re.sub(r"\(now \((\w+) \.(entry|exit)\)\)", lambda m: LENT[m[1]] + "'" * (m[2] == "exit"), found[1])
+    """The one clause of a contract, or all that it has in its place."""
+    if len(clauses) == 1 and clauses[0][0] == "ensures":
+        return clauses[0][1]
+    return "; ".join(f"{kind} {{ {text} }}" for kind, text in clauses) or "nothing"
 
 
-def functions(root):
-    """Each exported function: its parameters and its promise."""
-    found = {}
-    for file in sorted((root / "crates" / "page_index" / "src").glob("*.rt")):
-        text = file.read_text()
-        matches = list(FUNCTION.finditer(text))
-        if len(matches) != text.count('extern "C"'):
-            raise NotUnderstood(f"{file.name} has an exported function that is not understood")
-        module = "page_index" if file.stem == "lib" else f"page_index::{file.stem}"
-        for match in matches:
-            found[match[1]] = (f"{module}::{match[1]}", parameters(match[2]), promise(match[4]))
-    return found
+def exported_of(functions):
+    """Those of the library's functions that are exported, by their names."""
+    found = [function for function in functions.values() if function.is_exported]
+    names = [function.path.rpartition("::")[2] for function in found]
+    if len(set(names)) != len(names) or any(not function.path.startswith(f"{LIBRARY}::") for function in found):
+        raise NotUnderstood(f"exported functions that are not understood: {', '.join(function.path for function in found)}")
+    return dict(zip(names, found))
 
 
-def exported(root):
+def exported(functions):
     """The exported functions by their paths, each with its parameters; each promises what it must."""
-    found = functions(root)
+    found = exported_of(functions)
     if found.keys() != PROMISES.keys():
         raise NotUnderstood(f"exported, or to be exported: {', '.join(sorted(found.keys() ^ PROMISES.keys()))}")
-    for name, (_, _, promised) in found.items():
+    for name, function in found.items():
+        promised = promise(function.clauses)
         if promised != PROMISES[name]:
             raise NotUnderstood(f"{name} promises {promised}\n    and must promise {PROMISES[name]}")
-    return {path: taken for path, taken, _ in found.values()}
+    return {function.path: function.parameters for function in found.values()}

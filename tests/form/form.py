@@ -5,7 +5,8 @@ from dataclasses import replace
 
 from kinds import (ALLOWANCE, ANSWER, ARRAY, CALL, COUNT, COUNTING, CUT, ENDED, LEFT, MIXED, OWN, PLAIN, POINTER, READABLE, UNBEGUN,
                    WITHIN, ZERO, Answered, State, Tagged, has_count, is_harmless, joined)
-from mir import NotUnderstood, arms, functions, is_words, lines, listed, shown, statements, variants
+from mir import arms, is_words, lines, listed, named_type, shown, statements, variants
+from tokens import NotUnderstood
 
 STORE = "stores::store_word"
 END = "index::answer::after_stores"
@@ -81,9 +82,9 @@ class Reading:
                 return None
             case ["assign", place, value]:
                 return self.assigned(state, place, value)
-            case ["call", ["direct", ["fnRef", name]], operands, place]:
+            case ["call", ["function", name], operands, place]:
                 return self.called(state, name, listed(operands), place)
-            case ["if", condition, yes, no]:
+            case ["cond", condition, yes, no]:
                 return self.branched(state, condition, statements(yes), statements(no))
             case ["switch", value, cases]:
                 return self.switched(state, value, arms(cases))
@@ -174,11 +175,11 @@ class Reading:
 
     def operand(self, state, term):
         match term:
-            case "unit" | "true" | "false" | ["bool", _]:
+            case "opd_unit" | "opd_true" | "opd_false":
                 return PLAIN
-            case ["int", "32", "0"]:
+            case ["int", "w32", "0"]:
                 return ZERO
-            case ["int", _, _]:
+            case ["int" | "int_neg" | "int_big", _, _]:
                 return PLAIN
             case ["copy", place]:
                 return self.read(state, *self.place(place))
@@ -205,9 +206,8 @@ class Reading:
 
     def is_allowance(self, call, variant, position):
         """Whether a field of a call given as data is the allowance, the one of 32 bits. Field 0 is the variant's number."""
-        _, (_, name, _) = self.function.types[call]
-        fields = variants(self.function.declared[name])[variant]
-        return position > 0 and fields[position - 1] == ["tyInt", "32"]
+        fields = variants(self.function.declared[named_type(self.function.types[call])])[variant]
+        return position > 0 and fields[position - 1] == ["ty_int", "w32"]
 
     def behind_pointer(self, kind, projections):
         if not projections:
@@ -219,12 +219,12 @@ class Reading:
     def value(self, state, value, local_type):
         """The kind of a value that is computed."""
         match value:
-            case ["rvOpd", operand]:
+            case ["rv_opd", operand]:
                 return self.operand(state, operand)
             case ["repeat", operand, _]:
                 self.harmless(state, self.operand(state, operand), "is repeated")
                 return PLAIN
-            case ["addrOf", place]:
+            case ["addr_of", place]:
                 local, projections = self.place(place)
                 if projections and projections[-1][0] == "deref":
                     return self.read(state, local, projections[:-1])
@@ -246,7 +246,7 @@ class Reading:
                 return ARRAY
             if is_words(local_type, "imm"):
                 return READABLE
-        variant = int(operands[0][2]) if operands and operands[0][:2] == ["int", "8"] else None
+        variant = int(operands[0][2]) if operands and operands[0][:2] == ["int", "w8"] else None
         counts = [at for at, kind in enumerate(kinds) if kind == COUNT]
         others = [kind for kind in kinds if kind != COUNT]
         for kind in others:
@@ -392,10 +392,10 @@ def handed_by_source(taken):
     return tuple(by_source.get(parameter, PLAIN) for parameter in taken)
 
 
-def form_of(texts, roots):
-    """Reads every function of these MIRs that is lent the index array to be written, from these functions down, and from
-    `perform` down; answers how many they are."""
-    check = Check({name: function for text in texts for name, function in functions(text).items()})
+def form_of(functions, roots):
+    """Reads every function of these that is lent the index array to be written, from the exported ones down, and from `perform`
+    down; answers how many they are."""
+    check = Check(functions)
     check.pinned()
     for path, taken in roots.items():
         handed = handed_by_source(taken)

@@ -1,10 +1,8 @@
-# The MIR of a library as `rt mir` prints it: one term, whose functions are read here.
+# The MIR of a function as the kit prints it: a file of definitions in antt's terms, which are read here.
 import re
 from dataclasses import dataclass
 
-
-class NotUnderstood(Exception):
-    """What was met is not of the form that is read here."""
+from tokens import NotUnderstood
 
 
 @dataclass(frozen=True)
@@ -16,31 +14,124 @@ class Function:
     body: list  # statements, in order
 
 
-def terms(text):
-    """A term with parentheses as nested lists of words."""
-    open_lists = [[]]
-    for token in re.findall(r'"[^"]*"|[()]|[^\s()]+', text):
-        if token == "(":
-            open_lists.append([])
-        elif token == ")":
-            closed = open_lists.pop()
-            open_lists[-1].append(closed)
-        else:
-            open_lists[-1].append(token.strip('"'))
-    if len(open_lists) != 1:
-        raise NotUnderstood("the parentheses of the MIR do not match")
-    return open_lists[0]
+CONS, NIL = "List.◌∷◌", "List.[]"
+TOKEN = re.compile(r"[(),;{}]|[^\s(),;{}]+")
+# The module that names a function: where it is proved, or, of a call within a cycle, where its contract stands.
+NAMED = re.compile(r"use Rattle\.(\w+)\.(?:proofs\.(.*)\.Symbol|specs\.contracts\.(.*)\.Key)(?: as (\S+))?$")
+
+
+class Terms:
+    """A term of a definition, as nested lists: what is applied, and to what. A tuple or a record is a list too, with its sort first."""
+
+    def __init__(self, text):
+        self.tokens, self.at = TOKEN.findall(text), 0
+
+    def next(self):
+        if self.at == len(self.tokens):
+            raise NotUnderstood("a term of the MIR ends too soon")
+        self.at += 1
+        return self.tokens[self.at - 1]
+
+    def read(self):
+        term = self.applied()
+        if self.at != len(self.tokens):
+            raise NotUnderstood(f"no term of the MIR: {' '.join(self.tokens[self.at:self.at + 9])}")
+        return term
+
+    def applied(self):
+        """Terms up to a closing sign."""
+        found = []
+        while self.at < len(self.tokens) and self.tokens[self.at] not in (")", ",", ";", "}"):
+            found.append(self.one())
+        return found[0] if len(found) == 1 else found
+
+    def one(self):
+        token = self.next()
+        if token == "record":
+            return self.record()
+        if token != "(":
+            return token
+        parts = [self.applied()]
+        while (sign := self.next()) == ",":
+            parts.append(self.applied())
+        if sign != ")":
+            raise NotUnderstood("a bracket of the MIR is not closed")
+        return parts[0] if len(parts) == 1 else ["tuple", *[part for part in parts if part != []]]
+
+    def record(self):
+        fields = ["record"]
+        self.next()
+        while self.tokens[self.at] != "}":
+            name, _ = self.next(), self.next()
+            fields.append([name, self.applied()])
+            self.next()
+        self.next()
+        return fields
+
+
+class File:
+    """The definitions of a file, and the functions that it calls, by the names that it has for them."""
+
+    def __init__(self, text):
+        self.defined, self.called = {}, {}
+        for line in text.splitlines():
+            if found := NAMED.match(line):
+                crate, proof, contract, alias = found.groups()
+                name = alias or ("Symbol" if proof else "Key")
+                self.called[f"{name}.name"] = "::".join([crate, *(proof or contract).split(".")])
+        for block in text.split("\n\n"):
+            if found := re.match(r"abbrev pub (\S+) : .*\n\1 =(.*)", block, re.S):
+                self.defined[found[1]] = found[2]
+
+    def term(self, term):
+        """A term without names of this file: what they stand for is in their place, and libraries' names have no module before them."""
+        if isinstance(term, list):
+            return ["record", *([name, self.term(part)] for name, part in term[1:])] if term[:1] == ["record"] else [self.term(part) for part in term]
+        if term in self.called:
+            return ["function", self.called[term]]
+        if term in self.defined:
+            return self.term(Terms(self.defined[term]).read())
+        return term if term in (CONS, NIL) else re.sub(r"^(?:Syntax|Table)\.", "", term)
+
+    def function(self):
+        # Where it uses types with names, `function` is made of another one and the table of these.
+        fields = dict(self.term("by_name" if "by_name" in self.defined else "function")[1:])
+        table = listed(self.term("table")) if "table" in self.defined else []
+        locals_ = [local[1:] for local in listed(fields["locals"])]
+        in_memory = frozenset(at for at, (_, home) in enumerate(locals_) if home != "value_local")
+        declared = {text(symbol): declaration for _, symbol, _, declaration in table}
+        return Function(int(fields["params"]), [kind for kind, _ in locals_], in_memory, declared, statements(fields["body"]))
+
+
+def functions(folder):
+    """The functions whose MIR stands in a folder that the kit wrote, by their paths."""
+    found = {}
+    for file in sorted(folder.glob("Rattle-*-proofs/**/Code/*.antt")):
+        library, *modules, name, _, _ = file.relative_to(folder).parts
+        if name.startswith("+"):
+            name = file.stem.removeprefix("+")
+        crate = re.fullmatch(r"Rattle-(\w+)-proofs", library)[1]
+        try:
+            found["::".join([crate, *modules, name])] = File(file.read_text()).function()
+        except (KeyError, ValueError, TypeError, IndexError) as why:
+            raise NotUnderstood(f"{file.relative_to(folder)} is not understood: {why}") from None
+    return found
 
 
 def listed(term):
-    """The items of a list term: lcons ITEM (lcons ITEM .. lnil), or tcons .. tnil for types."""
+    """The items of a list."""
     items = []
-    while term not in ("lnil", "tnil"):
-        if len(term) != 3 or term[0] not in ("lcons", "tcons"):
+    while term not in (NIL, "tnil", "ttnil"):
+        if len(term) != 3 or term[0] not in (CONS, "tcons", "ttcons"):
             raise NotUnderstood(f"no list: {shown(term)}")
         items.append(term[1])
         term = term[2]
     return items
+
+
+def text(term):
+    """The text of a symbol: with the types that it is taken at, which are none here."""
+    return "".join(chr(int(code)) for code in listed(term))
 
 
 def statements(term):
@@ -58,42 +149,27 @@ def arms(term):
     while isinstance(term, list) and term[0] == "arm":
         found.append(([int(number) for number in listed(term[1])], statements(term[2])))
         term = term[3]
-    if term != "noDefault":
+    if term != "no_default":
         raise NotUnderstood("a switch with a default")
-    return found
-
-
-def functions(text):
-    """The functions of the program, by name."""
-    program = terms(text)
-    if len(program) != 3 or program[0] != "program":
-        raise NotUnderstood("no program")
-    found = {}
-    for definition in listed(program[1]):
-        _, name, item, *types = definition
-        _, _, _, parameters, local_types, body = item
-        locals_ = listed(local_types)
-        in_memory = frozenset(at for at, local in enumerate(locals_) if local[2] != "valueLocal")
-        declared = {pair[1]: pair[2] for pair in (listed(types[0]) if types else [])}
-        found[name] = Function(int(parameters), [local[1] for local in locals_], in_memory, declared, statements(body))
     return found
 
 
 def variants(declaration):
     """The fields of each variant of an enum, by their types."""
-    found = []
-    rest = declaration[1]
-    while rest != "ttnil":
-        found.append(listed(rest[1]))
-        rest = rest[2]
-    return found
+    return [listed(fields) for fields in listed(declaration[1])]
+
+
+def named_type(local_type):
+    """The name of a struct or an enum."""
+    _, [_, symbol, _], _ = local_type
+    return text(symbol)
 
 
 def is_words(local_type, access):
     """Whether this is the type of a slice of words that can be read (`imm`) or written (`mut`)."""
     match local_type:
-        case ["tyStruct", "&[]", ["tcons", ["tyRef", _, found, ["tyInt", "64"]], _]]:
-            return found == access
+        case ["ty_struct", name, ["tcons", ["ty_ref", _, found, ["ty_int", "w64"]], _]]:
+            return text(name) == "&[]" and found == access
     return False
 
 
@@ -104,7 +180,7 @@ def shown(term):
             return term
         case ["place", local, projections]:
             return "_" + local + "".join("." + ("*" if p[0] == "deref" else shown(p[1:])) for p in listed(projections))
-        case ["copy", place] | ["rvOpd", place]:
+        case ["copy", place] | ["rv_opd", place]:
             return shown(place)
         case ["int", _, number]:
             return number
@@ -125,7 +201,7 @@ def lines(body, indent=""):
                 yield indent + statement
             case ["assign", place, value]:
                 yield f"{indent}{shown(place)} = {shown(value)}"
-            case ["if", condition, yes, no]:
+            case ["cond", condition, yes, no]:
                 yield f"{indent}if {shown(condition)}"
                 yield from lines(statements(yes), indent + "    ")
                 yield indent + "else"
