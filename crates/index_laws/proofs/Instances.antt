@@ -5,7 +5,7 @@ use Prim.Native.Nat.{ℕ, zero, suc, ◌^◌}
 use mathlib.Core.Path.{◌≡◌, refl, sym, ap, ◌∙◌}
 use mathlib.Core.Bool.{true, false}
 use mathlib.Core.List.{List, [], ◌∷◌, ◌++◌}
-use mathlib.Core.Option.{none, some, some-injective}
+use mathlib.Core.Option.{Option, none, some, some-injective}
 use native.Mathlib.Omega.{arith}
 use lib.Dec.{lit≤, lit<}
 use lib.ListN.{replicate}
@@ -14,7 +14,6 @@ use Rattle.stores.specs.Store.{store, apply, word}
 use Rattle.stores.specs.Plan.{Outcome}
 use Rattle.stores.specs.Difference.{SameBut, address_behind}
 use Rattle.replies.specs.declared.Refusal.TheVariants.{CutOff}
-use Rattle.replies.specs.declared.Following.TheVariants.{Next, Last}
 use Rattle.replies.specs.declared.Reply.{Reply}
 use Rattle.replies.specs.declared.Reply.TheVariants.{Done, Value, Listed, Refused}
 use Rattle.replies.specs.declared.Answer.{Answer}
@@ -193,12 +192,12 @@ joined_so joins =
     let same : g.parts ≡ parts = some-injective g.parts parts (sym g.gathered ∙ two_gathered) in
     rw same at g.full
 
-first_block : BlockPerformed two 0 (7 ∷ 70 ∷ []) (Next 1)
+first_block : BlockPerformed two 0 (7 ∷ 70 ∷ []) (some 1)
 unfolding computed
 first_block =
     record {
       list = replicate 128 0;
-      answer = answering (Listed 1 (Next 1));
+      answer = answering (Listed 1 (some 1));
       after = two;
       list_after = 7 ∷ 70 ∷ replicate 126 0;
       performed = record { answered = record { reply = refl; stores = refl; words = refl }; list = refl };
@@ -207,12 +206,12 @@ first_block =
       words = refl;
     }
 
-second_block : BlockPerformed two 1 (23 ∷ 230 ∷ []) Last
+second_block : BlockPerformed two 1 (23 ∷ 230 ∷ []) none
 unfolding computed
 second_block =
     record {
       list = 5 ∷ 6 ∷ [];
-      answer = answering (Listed 1 Last);
+      answer = answering (Listed 1 none);
       after = two;
       list_after = 23 ∷ 230 ∷ [];
       performed = record { answered = record { reply = refl; stores = refl; words = refl }; list = refl };
