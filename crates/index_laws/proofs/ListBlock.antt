@@ -259,7 +259,7 @@ joined_listing a l m enough h =
 block_performed : (a : List ℕ) (i : ℕ) (part : List ℕ) (f : Option ℕ) (b : BlockPerformed a i part f)
     → BlockDone a b.list i b.count f × (part ≡ words_of (records_led a i))
 block_performed a i part f b =
-    let d = block_done a b.list i b.count f (sym b.performed.answered.reply ∙ ap said_by b.says) in
+    let d = block_done a b.list i b.count f (sym b.performed.answered.reply ∙ b.says) in
     (d, b.words ∙ ap (take (2 * b.count)) (b.performed.list ∙ d.left) ∙ led_words a b.list i b.count d.records_led_holds)
 
 performed_from : (a : List ℕ) (parts : List (List ℕ)) (i : ℕ) (part : List ℕ) → PartsPerformed a i part parts → ListedFrom a i (part ∷ parts)

@@ -2,9 +2,8 @@
 -- answers are the full listing; and the two calls give 1, 3 and 4 on the same arrays.
 use Rattle.std.specs.Prelude.{ℕ, zero, suc, ◌*◌, ◌^◌, ◌≤◌, ◌≡◌, true, false, List, [], ◌∷◌, ◌++◌, length, take}
 use Rattle.std.proofs.Math.Option.{Option, none, some}
-use Rattle.replies.specs.declared.Reply.TheVariants.{Listed}
 use Rattle.replies.specs.declared.Answer.{Answer}
-use Rattle.replies.specs.Replies.{Said, done, listed, absent, refused, is_refusal, says_damage}
+use Rattle.replies.specs.Replies.{Said, done, listed, absent, refused, said_by, is_refusal, says_damage}
 use Rattle.index_rules.specs.declared.Call.TheVariants.{List as ListCall, ListBlock}
 use Rattle.index_rules.specs.Layout.{depth}
 use Rattle.index_rules.specs.Scan.{leaders}
@@ -80,7 +79,7 @@ pub record BlockPerformed (a : List ℕ) (i : ℕ) (part : List ℕ) (f : Option
   pub list_after : List ℕ
   pub performed : Performed (ListBlock i) a list answer after list_after
   pub count : ℕ
-  pub says : answer.reply ≡ Listed count f
+  pub says : said_by answer.reply ≡ listed count f
   pub words : part ≡ take (2 * count) list_after
 
 -- Such listings, each at the index that the one before has named, to the last: they left these parts.

@@ -9,14 +9,14 @@ use borrow.Author.Tests.{ne_eqb}
 use lib.Dec.{leb}
 use lib.ListN.{length}
 use native.Mathlib.Omega.{arith}
-use Rattle.std.specs.Prelude.{Result, Ok, Err}
+use Rattle.std.specs.Prelude.{Result, Ok, Err, Some, None}
 use Rattle.stores.specs.Lists.{pick}
 use Rattle.stores.specs.Plan.{Plan, cut}
 use Rattle.replies.specs.declared.Refusal.{Refusal}
 use Rattle.replies.specs.declared.Refusal.TheVariants.{CutOff}
 use Rattle.replies.specs.declared.Reply.{Reply}
 use Rattle.replies.specs.declared.Reply.TheVariants.{Done, Value, Listed, Absent}
-use Rattle.replies.specs.Replies.{Said, refused, number_of, refuse, said_by, is_refusal, unless, tested, replied, changed}
+use Rattle.replies.specs.Replies.{Said, listed, refused, number_of, refuse, said_by, is_refusal, unless, tested, replied, changed}
 use Rattle.replies.specs.Writing.{Writing, behind_tests}
 use Rattle.replies.proofs.Outcomes.{refused_not_done, refused_inj}
 
@@ -45,6 +45,10 @@ module _ (gives : ℕ → Bool) where
 
   pub by : (r : Result Reply Refusal) → Given r → Sayable (said_by r)
   by r g = record { reply = r; says = refl; given = g }
+
+  pub listed_sayable : (count : ℕ) (next : Option ℕ) → Sayable (listed count next)
+  listed_sayable count (some i) = by (Ok (Listed count (Some i))) tt
+  listed_sayable count none = by (Ok (Listed count None)) tt
 
   -- ---- Tests, and the cut
 
