@@ -1,12 +1,12 @@
 // What any store of keys and values does in a cell of a row of cells: where it stands, what it holds, and the
-// stores into it under an allowance, which answer the number of stores due now.
+// stores into it by the call's budget.
 #![tactic(auto)]
 
 ghost use Rattle.std.specs.Prelude.{◌≡◌, ◌*◌, ◌≤◌, ◌<◌, length};
 ghost use Rattle.stores.specs.Executed.{Executed, due_limit};
 ghost use Rattle.cells.specs.Cells.{key_address, value_address, key_at, value_at, value_stored, record_stored, key_cleared};
 
-use stores::store_word;
+use stores::Budget;
 
 // A record: a key and its value.
 #[derive(Clone, Copy)]
@@ -48,42 +48,26 @@ pub fn value_at(words: &[u64], base: usize, cell: usize) -> u64
 }
 
 // Stores a new value into a cell.
-pub fn store_value(
-    words: &mut [u64],
-    base: usize,
-    cell: usize,
-    value: u64,
-    allowance: u32,
-    due: u32,
-) -> u32
-    requires { (value_address base cell < length words.old) × (due ≤ 2 * due_limit) }
-    ensures { Executed (value_stored base cell value) allowance due words.old result words.new }
+pub fn store_value(words: &mut [u64], base: usize, cell: usize, value: u64, budget: &mut Budget)
+    requires { (value_address base cell < length words.old) × (budget.old.due ≤ 2 * due_limit) }
+    ensures { Executed (value_stored base cell value) budget.old words.old budget.new words.new }
 {
-    store_word(words, value_address(base, cell), value, allowance, due)
+    budget.store(words, value_address(base, cell), value);
 }
 
 // Stores value, then key: a cut between the two shows no key with another's value.
-pub fn store_record(
-    words: &mut [u64],
-    base: usize,
-    cell: usize,
-    new: Record,
-    allowance: u32,
-    due: u32,
-) -> u32
-    requires { (value_address base cell < length words.old) × (due ≤ 2 * due_limit) }
-    ensures { Executed (record_stored base cell new.key new.value) allowance due words.old result words.new }
+pub fn store_record(words: &mut [u64], base: usize, cell: usize, new: Record, budget: &mut Budget)
+    requires { (value_address base cell < length words.old) × (budget.old.due ≤ 2 * due_limit) }
+    ensures { Executed (record_stored base cell new.key new.value) budget.old words.old budget.new words.new }
 {
-    let key_at = key_address(base, cell);
-    let value_at = value_address(base, cell);
-    let value_due = store_word(words, value_at, new.value, allowance, due);
-    store_word(words, key_at, new.key, allowance, value_due)
+    budget.store(words, value_address(base, cell), new.value);
+    budget.store(words, key_address(base, cell), new.key);
 }
 
 // Clears the key of a cell.
-pub fn clear_key(words: &mut [u64], base: usize, cell: usize, allowance: u32, due: u32) -> u32
-    requires { (key_address base cell < length words.old) × (due ≤ 2 * due_limit) }
-    ensures { Executed (key_cleared base cell) allowance due words.old result words.new }
+pub fn clear_key(words: &mut [u64], base: usize, cell: usize, budget: &mut Budget)
+    requires { (key_address base cell < length words.old) × (budget.old.due ≤ 2 * due_limit) }
+    ensures { Executed (key_cleared base cell) budget.old words.old budget.new words.new }
 {
-    store_word(words, key_address(base, cell), 0, allowance, due)
+    budget.store(words, key_address(base, cell), 0);
 }

@@ -9,7 +9,8 @@ use borrow.Author.Tests.{le-leb}
 use lib.ListN.{length}
 use Rattle.stores.specs.Store.{exec, apply}
 use Rattle.stores.specs.Plan.{Plan, reply_only, cut}
-use Rattle.stores.specs.Executed.{Executed}
+use Rattle.stores.specs.declared.Budget.{Budget}
+use Rattle.stores.specs.Executed.{Executed, begun}
 use Rattle.stores.proofs.Stores.{executed_none}
 use Rattle.replies.specs.declared.Refusal.{Refusal}
 use Rattle.replies.specs.declared.Answer.{Answer}
@@ -18,15 +19,14 @@ use Rattle.replies.specs.Answered.{Answered, AfterStores}
 
 module _ (allowance : ℕ) (p : Plan Said) (before : List ℕ) (r : Answer) where
   -- The plan's stores were made under the allowance, and the answer tells their number and the plan's reply.
-  pub answered_stores : (due : ℕ) (after : List ℕ) → Executed p.due allowance 0 before due after
-      → AfterStores r p.reply allowance due
+  pub answered_stores : (b : Budget) (after : List ℕ) → Executed p.due (begun allowance) before b after → AfterStores r p.reply b
       → Answered (changed allowance p before) r after
   unfolding changed cut
-  answered_stores due after e a =
-      let n : due ≡ length p.due = e.count ∙ zero-add (length p.due) in
+  answered_stores b after e a =
+      let n : b.due ≡ length p.due = e.count ∙ zero-add (length p.due) in
       record {
-        reply = rw n at a.0;
-        stores = rw n at a.1;
+        reply = rw (n, e.allowance) at a.0;
+        stores = rw (n, e.allowance) at a.1;
         words = e.words ∙ rw (sub-zero allowance);
       }
 
@@ -38,7 +38,7 @@ answered_only allowance s before r e k =
     record {
       reply = rw (le-leb 0 allowance (omega arith)) e;
       stores = rw (min-zero allowance) k;
-      words = (executed_none allowance 0 before).words ∙ rw (sub-zero allowance);
+      words = (executed_none (begun allowance) before).words ∙ rw (sub-zero allowance);
     }
 
 -- A refusal by the tests in front of a plan.

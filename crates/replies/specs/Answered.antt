@@ -1,5 +1,6 @@
 -- What the code has answered and left, against what a definition says and leaves.
 use Rattle.std.specs.Prelude.{ℕ, min, ◌≡◌, List, leb}
+use Rattle.stores.specs.declared.Budget.{Budget}
 use Rattle.stores.specs.Lists.{pick}
 use Rattle.stores.specs.Plan.{Outcome}
 use Rattle.stores.specs.Written.{at_front}
@@ -19,9 +20,10 @@ pub record Wrote (w : Writing) (answer : Answer) (before after : List ℕ) : Typ
   pub stores : answer.stores ≡ 0
   pub left : after ≡ at_front w.words before
 
--- What an answer says behind stores of which `due` were due: the reply, or 7 where more were due than allowed.
-abbrev pub AfterStores : (r : Answer) (reply : Said) (allowance due : ℕ) → Type 0
-AfterStores r reply allowance due = (said_by r.reply ≡ pick (leb due allowance) reply (refused 7)) × (r.stores ≡ min allowance due)
+-- What an answer says behind the stores of a budget: the reply, or 7 where more were due than allowed.
+abbrev pub AfterStores : (r : Answer) (reply : Said) → Budget → Type 0
+AfterStores r reply b =
+    (said_by r.reply ≡ pick (leb b.due b.allowance) reply (refused 7)) × (r.stores ≡ min b.allowance b.due)
 
 -- What an answer with no store says.
 abbrev pub Without : (r : Answer) (reply : Said) → Type 0

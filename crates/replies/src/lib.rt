@@ -5,6 +5,8 @@ ghost use Rattle.std.specs.Prelude.{◌≡◌};
 ghost use Rattle.replies.specs.Replies.{number_of, said_by};
 ghost use Rattle.replies.specs.Answered.{AfterStores};
 
+use stores::Budget;
+
 // Document 01, 'Replies that say no': the ten refusals, in the order of its table; and those that
 // document 02 adds, in the order of their numbers.
 #[derive(Clone, Copy)]
@@ -52,20 +54,18 @@ pub fn without_store(reply: Result<Reply, Refusal>) -> Answer
     Answer { reply, stores: 0 }
 }
 
-// The answer of a call of which `due` stores were due and `allowance` could be made: the reply, or cut
-// off where more were due than allowed.
-pub fn after_stores(reply: Reply, allowance: u32, due: u32) -> Answer
-    ensures { AfterStores result (said_by (Ok reply)) allowance due }
+// The answer of a call behind its stores: the reply, or cut off where more stores are due than it may make.
+pub fn after_stores(reply: Reply, budget: Budget) -> Answer
+    ensures { AfterStores result (said_by (Ok reply)) budget }
 {
-    if allowance < due {
-        return Answer {
-            reply: Err(Refusal::CutOff),
-            stores: allowance,
-        };
-    }
+    let reply = if budget.is_cut() {
+        Err(Refusal::CutOff)
+    } else {
+        Ok(reply)
+    };
     Answer {
-        reply: Ok(reply),
-        stores: due,
+        reply,
+        stores: budget.made(),
     }
 }
 

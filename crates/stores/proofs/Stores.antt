@@ -12,6 +12,7 @@ use lib.ListN.{length, set, take, length-set, length-append}
 use lib.Seq.{take_all, take-nil, get_or-set_same, get_or-set_other}
 use Rattle.stores.specs.Lists.{pick, each, any_below}
 use Rattle.stores.specs.Store.{Store, store, word, apply, exec, Every, writes}
+use Rattle.stores.specs.declared.Budget.{Budget}
 use Rattle.stores.specs.Executed.{Executed}
 use Rattle.stores.proofs.Lists.{each_suc}
 use Rattle.stores.proofs.Tests.{by_test, by_equal}
@@ -60,19 +61,20 @@ exec_append ss tt n a = rw (take_append ss tt n) (apply_append (take n ss) (take
 
 -- ---- The promise of code that stores
 
-pub executed_none : (allowance due : ℕ) (a : List ℕ) → Executed [] allowance due a due a
+pub executed_none : (b : Budget) (a : List ℕ) → Executed [] b a b a
 unfolding exec apply
-executed_none allowance due a = record { count = omega arith; words = rw (take-nil {A = Store} (allowance - due)) }
+executed_none b a = record { allowance = refl; count = omega arith; words = rw (take-nil {A = Store} (b.allowance - b.due)) }
 
-pub executed_append : (ss tt : List Store) (allowance due : ℕ) (a : List ℕ) (due₁ : ℕ) (a₁ : List ℕ) (due₂ : ℕ) (a₂ : List ℕ)
-    → Executed ss allowance due a due₁ a₁ → Executed tt allowance due₁ a₁ due₂ a₂ → Executed (ss ++ tt) allowance due a due₂ a₂
-executed_append ss tt allowance due a due₁ a₁ due₂ a₂ p q =
-    let c₁ : due₁ ≡ due + length ss = p.count in
-    let c₂ : due₂ ≡ due₁ + length tt = q.count in
-    let left : allowance - due₁ ≡ allowance - due - length ss = omega arith in
+pub executed_append : (ss tt : List Store) (b : Budget) (a : List ℕ) (b₁ : Budget) (a₁ : List ℕ) (b₂ : Budget) (a₂ : List ℕ)
+    → Executed ss b a b₁ a₁ → Executed tt b₁ a₁ b₂ a₂ → Executed (ss ++ tt) b a b₂ a₂
+executed_append ss tt b a b₁ a₁ b₂ a₂ p q =
+    let c₁ : b₁.due ≡ b.due + length ss = p.count in
+    let c₂ : b₂.due ≡ b₁.due + length tt = q.count in
+    let left : b₁.allowance - b₁.due ≡ b.allowance - b.due - length ss = omega (arith, p.allowance) in
     record {
+      allowance = q.allowance ∙ p.allowance;
       count = rw (length-append ss tt) (omega arith);
-      words = q.words ∙ rw (p.words, left) (sym (exec_append ss tt (allowance - due) a));
+      words = q.words ∙ rw (p.words, left) (sym (exec_append ss tt (b.allowance - b.due) a));
     }
 
 -- ---- Reads after stores

@@ -1,20 +1,48 @@
 // A word stored under an allowance.
 #![tactic(auto)]
 
-ghost use Rattle.std.specs.Prelude.{◌<◌, [], ◌∷◌, length};
+ghost use Rattle.std.specs.Prelude.{◌≡◌, ◌<◌, min, ltb, [], ◌∷◌, length};
 ghost use Rattle.stores.specs.Store.{store};
-ghost use Rattle.stores.specs.Executed.{Executed};
+ghost use Rattle.stores.specs.Executed.{Executed, begun};
 
-// Stores `value` at `at` if fewer than `allowance` stores were due before, and answers the number of
-// stores due now. The number rises whether or not the word is stored, so a caller tests for the
-// cut once, behind its last store.
-pub fn store_word(words: &mut [u64], at: usize, value: u64, allowance: u32, due: u32) -> u32
-    requires { (at < length words.old) × (due < 4294967295) }
-    ensures { Executed (store at value ∷ []) allowance due words.old result words.new }
-{
-    if due < allowance {
-        words[at] = value;
-        return due + 1;
+// The stores of a call: how many it may make, and how many have come due. It is neither copied nor dropped: a call has one
+// from its first store on, and answers by it.
+pub struct Budget {
+    allowance: u32,
+    due: u32,
+}
+
+impl Budget {
+    // Of a call that may make so many stores; none is due yet.
+    pub fn new(allowance: u32) -> Budget
+        ensures { result ≡ begun allowance }
+    {
+        Budget { allowance, due: 0 }
     }
-    due + 1
+
+    // Stores `value` at `at` if fewer than `allowance` stores were due before. The number of due stores rises
+    // whether or not the word is stored, so a caller tests for the cut once, behind its last store.
+    pub fn store(&mut self, words: &mut [u64], at: usize, value: u64)
+        requires { (at < length words.old) × (self.old.due < 4294967295) }
+        ensures { Executed (store at value ∷ []) self.old words.old self.new words.new }
+    {
+        if self.due < self.allowance {
+            words[at] = value;
+        }
+        self.due += 1;
+    }
+    // Whether the call is cut off: more stores are due than it may make.
+    pub fn is_cut(&self) -> bool
+        ensures { result ≡ ltb self.now.allowance self.now.due }
+    {
+        self.allowance < self.due
+    }
+
+    // The number of stores that were made, at the end of the call.
+    pub fn made(self) -> u32
+        ensures { result ≡ min self.allowance self.due }
+    {
+        let Budget { allowance, due } = self;
+        allowance.min(due)
+    }
 }

@@ -1,6 +1,5 @@
 -- `cells::clear_key` meets its contract.
-use borrow.Author.Rules.{rules}
 use Rattle.cells.proofs.clear_key.Goals as goal
 
 pub returns : goal.returns
-returns c = rw c.key_address.ensures at c.store_word.ensures
+returns c = rw c.key_address.ensures at c.store.ensures

@@ -1,5 +1,4 @@
 -- `cells::key_at` meets its contract.
-use borrow.Author.Rules.{rules}
 use Rattle.cells.proofs.key_at.Goals as goal
 
 pub returns : goal.returns

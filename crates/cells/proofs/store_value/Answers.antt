@@ -1,6 +1,5 @@
 -- `cells::store_value` meets its contract.
-use borrow.Author.Rules.{rules}
 use Rattle.cells.proofs.store_value.Goals as goal
 
 pub returns : goal.returns
-returns c = rw c.value_address.ensures at c.store_word.ensures
+returns c = rw c.value_address.ensures at c.store.ensures

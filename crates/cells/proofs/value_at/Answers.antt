@@ -1,5 +1,4 @@
 -- `cells::value_at` meets its contract.
-use borrow.Author.Rules.{rules}
 use Rattle.cells.proofs.value_at.Goals as goal
 
 pub returns : goal.returns
