@@ -1,62 +1,87 @@
 # The form of the stores, read from the MIR: what `check` says at its head. A function that is lent the index array to be written
-# is read once for what it is handed: each local has a kind, and of the locals that hold a count it is known which hold the one
-# of now. Whatever is not understood is refused.
+# is read once for what it is handed: each local has a kind. That a budget is not copied, dropped or taken apart outside its crate, the
+# language sees to (budget.py). Whatever is not understood is refused.
 from dataclasses import replace
 
-from kinds import (ALLOWANCE, ANSWER, ARRAY, CALL, COUNT, COUNTING, CUT, ENDED, LEFT, MIXED, OWN, PLAIN, POINTER, READABLE, UNBEGUN,
-                   WITHIN, ZERO, Answered, State, Tagged, has_count, is_harmless, joined)
+from kinds import (ALLOWANCE, ANSWER, ARRAY, BUDGET, BUDGET_AT, CALL, COUNTING, CUT, ENDED, LEFT, MADE, MIXED, OWN, PLAIN, POINTER, READABLE,
+                   UNBEGUN, WITHIN, Answered, State, Tagged, is_harmless, joined)
 from mir import arms, is_words, lines, listed, named_type, shown, statements, variants
 from tokens import NotUnderstood
 
-STORE = "stores::store_word"
-END = "index::answer::after_stores"
+BEGIN, STORE, IS_CUT, MADE_OF = (f"stores::Budget::{name}" for name in ("new", "store", "is_cut", "made"))
+END = "replies::after_stores"
 # Calls itself behind a split, with the allowance that is left.
 RESUMES = "index::put"
 PERFORM = "index::perform"
 
-# The functions that are read by their whole form. Whoever changes one reads it again: that the allowance decides here about
-# this one store alone, and there about the reply alone.
+# The functions that are read by their whole form. Whoever changes one reads it again: that the allowance decides in the one about this
+# one store alone, and in the others about the reply alone.
 PINNED = {
-    # words, at, value, allowance, due
-    STORE: """\
-_6 = (lt unsigned) _5 _4
-if _6
-    _7 = (mul unsigned) _2 8
-    _8 = offset _1.0 _7
-    _8.* = _3
-    _0 = (add unsigned) _5 1
-    return
-else
-    skip
-_0 = (add unsigned) _5 1
+    # allowance
+    BEGIN: """\
+_0 = {_1, 0}
 return
 """,
-    # reply, allowance, due
-    END: """\
-_4 = (lt unsigned) _2 _3
-if _4
-    _5 = {6}
-    _6 = {4, _5}
-    _0 = {_6, _2}
-    return
+    # self, words, at, value
+    STORE: """\
+_5 = _1.*.1
+_6 = _1.*.0
+_7 = (lt unsigned) _5 _6
+if _7
+    _8 = (mul unsigned) _3 8
+    _9 = offset _2.0 _8
+    _9.* = _4
 else
     skip
-_0 = {_1, _3}
+_5 = _1.*.1
+_6 = (add unsigned) _5 1
+_1.*.1 = _6
+_0 = opd_unit
+return
+""",
+    # self
+    IS_CUT: """\
+_2 = _1.*.0
+_3 = _1.*.1
+_0 = (lt unsigned) _2 _3
+return
+""",
+    # self
+    MADE_OF: """\
+_2 = _1.0
+_3 = _1.1
+_0 = core::int::u32::min _2 _3
+return
+""",
+    # reply, budget
+    END: """\
+_3 = _2
+_6 = (addr_of _3)
+_5 = stores::Budget::is_cut _6
+if _5
+    _8 = {6}
+    _7 = {1, _8}
+else
+    _7 = {0, _1}
+_4 = _7
+_10 = _3
+_9 = stores::Budget::made _10
+_0 = {_4, _9}
 return
 """,
 }
+
 
 class Reading:
     """One function read with what it is handed: a kind for each parameter."""
 
     def __init__(self, check, name, handed):
         self.check, self.name, self.function = check, name, check.functions[name]
-        self.answers = []  # of the ways that end here: COUNT, ANSWER or Tagged
+        self.answers = []  # of the ways that end here: BUDGET, BUDGET_AT, ANSWER or Tagged
         self.frames = []  # of the blocks around a statement, the inmost last: the ways that leave each; None for a loop
-        stands = COUNTING if COUNT in handed else UNBEGUN
-        kinds = dict(enumerate(handed, start=1))
-        holders = frozenset(local for local, kind in kinds.items() if kind == COUNT)
-        if self.run(State(stands, kinds, holders), self.function.body) is not None:
+        self.is_lent_budget = BUDGET_AT in handed
+        stands = COUNTING if self.is_lent_budget else UNBEGUN
+        if self.run(State(stands, dict(enumerate(handed, start=1))), self.function.body) is not None:
             self.fail("ends without an answer")
 
     def fail(self, what):
@@ -144,23 +169,25 @@ class Reading:
         for numbers, body in cases:
             way = state
             if isinstance(kind, Answered):
-                if len(numbers) != 1 or numbers[0] not in kind.counts:
+                if len(numbers) != 1 or numbers[0] not in kind.budgets:
                     self.fail("a variant that the call does not answer")
-                if kind.counts[numbers[0]] is None:
+                if kind.budgets[numbers[0]] is None:
                     way = replace(state, stands=UNBEGUN).having(local, PLAIN)
             behind = self.meet(behind, self.run(way, body))
         return behind
 
     def returned(self, state):
         kind = state.kind(0)
-        if state.stands == ENDED:
+        if self.is_lent_budget:
+            if state.stands != COUNTING or not is_harmless(kind):
+                self.fail("is lent the budget, and answers otherwise")
+            self.answers.append(BUDGET_AT)
+        elif kind == BUDGET or isinstance(kind, Tagged):
+            self.answers.append(kind)
+        elif state.stands in (ENDED, UNBEGUN):
             self.answers.append(ANSWER)
-        elif 0 in state.holders:
-            self.answers.append(COUNT if kind == ZERO else kind)
-        elif state.stands == UNBEGUN:
-            self.answers.append(Tagged(kind.variant, None) if isinstance(kind, Tagged) else ANSWER)
         else:
-            self.fail("the count of due stores is dropped")
+            self.fail("the budget is not answered")
         return None
 
     # Values.
@@ -177,8 +204,6 @@ class Reading:
         match term:
             case "opd_unit" | "opd_true" | "opd_false":
                 return PLAIN
-            case ["int", "w32", "0"]:
-                return ZERO
             case ["int" | "int_neg" | "int_big", _, _]:
                 return PLAIN
             case ["copy", place]:
@@ -200,7 +225,7 @@ class Reading:
             return ALLOWANCE if self.is_allowance(local, int(variant), int(position)) else PLAIN
         if isinstance(kind, Answered) and [p[0] for p in projections] == ["variant", "field"]:
             (_, [variant]), (_, [position]) = projections
-            return COUNT if kind.counts.get(int(variant)) == int(position) else PLAIN
+            return BUDGET if kind.budgets.get(int(variant)) == int(position) else PLAIN
         self.harmless(state, kind, "is taken apart")
         return PLAIN
 
@@ -230,7 +255,7 @@ class Reading:
                     return self.read(state, local, projections[:-1])
                 if local not in self.function.in_memory:
                     self.fail("a pointer to a local that has no place")
-                return OWN
+                return BUDGET_AT if state.kind(local) == BUDGET and not projections else OWN
             case ["aggregate", operands]:
                 return self.aggregate(state, listed(operands), local_type)
             case ["op1" | "op2", operation, *operands]:
@@ -247,25 +272,22 @@ class Reading:
             if is_words(local_type, "imm"):
                 return READABLE
         variant = int(operands[0][2]) if operands and operands[0][:2] == ["int", "w8"] else None
-        counts = [at for at, kind in enumerate(kinds) if kind == COUNT]
-        others = [kind for kind in kinds if kind != COUNT]
-        for kind in others:
-            self.harmless(state, kind, "is put into a value")
-        if not counts or state.stands == ENDED:
+        budgets = [at for at, kind in enumerate(kinds) if kind == BUDGET]
+        for kind in kinds:
+            if kind != BUDGET:
+                self.harmless(state, kind, "is put into a value")
+        if not budgets:
             return PLAIN if variant is None else Tagged(variant, None)
-        if variant is None or len(counts) > 1:
-            self.fail("the count is put into a value")
-        return Tagged(variant, counts[0])
+        if variant is None or len(budgets) > 1:
+            self.fail("the budget is put into a value")
+        return Tagged(variant, budgets[0])
 
     def computed(self, state, operation, kinds):
         if operation == "offset" and kinds[0] in (POINTER, OWN):
             self.harmless(state, kinds[1], "is an address")
             return kinds[0]
-        if self.name == RESUMES and kinds == [ALLOWANCE, COUNT]:
-            if operation == ["lt", "unsigned"] and state.stands == COUNTING:
-                return CUT
-            if operation == ["sub", "unsigned"] and state.stands == WITHIN:
-                return LEFT
+        if self.name == RESUMES and state.stands == WITHIN and kinds == [ALLOWANCE, MADE] and operation == ["sub", "unsigned"]:
+            return LEFT
         for kind in kinds:
             self.harmless(state, kind, "is computed with")
         return PLAIN
@@ -282,64 +304,67 @@ class Reading:
             self.harmless(state, kind, "is put into a value")
             self.harmless(state, state.kind(local), "is changed")
             return state
-        holds = has_count(kind) and state.stands != ENDED or kind == ZERO and state.stands == UNBEGUN
-        return self.noted(state, local, kind, holds)
+        return self.noted(state, local, kind)
 
-    def noted(self, state, local, kind, holds=False):
-        """A local gets a value. What a pointer can reach may change unseen, so no count or allowance is kept there."""
-        if local in self.function.in_memory:
+    def noted(self, state, local, kind):
+        """A local gets a value. What a pointer can reach may change unseen, so no allowance is kept there; of a budget no part is."""
+        if local in self.function.in_memory and kind != BUDGET:
             self.harmless(state, kind, "is kept where a pointer reaches it")
             return state.having(local, PLAIN)
-        return state.having(local, kind, holds)
+        return state.having(local, kind)
 
     # Calls.
 
     def called(self, state, name, operands, place):
         target, projections = self.place(place)
         kinds = [self.operand(state, operand) for operand in operands]
+        if projections and any(kind in (ARRAY, ALLOWANCE, BUDGET, BUDGET_AT) for kind in kinds):
+            self.fail("a call that decides about stores answers into a part of a value")
+        if name == BEGIN:
+            return self.begun(state, kinds, target)
+        if name == END and BUDGET in kinds:
+            return self.noted(replace(state, stands=ENDED), target, ANSWER)
+        if self.name == RESUMES and name == IS_CUT and kinds == [BUDGET_AT] and state.stands == COUNTING:
+            return self.noted(state, target, CUT)
+        if self.name == RESUMES and name == MADE_OF and kinds == [BUDGET] and state.stands == WITHIN:
+            return self.noted(state, target, MADE)
         if ARRAY in kinds:
-            if projections:
-                self.fail("a storing call answers into a part of a value")
-            return self.storing(state, name, operands, kinds, target)
-        if name == END and state.stands in (COUNTING, WITHIN):
-            if kinds[1] != ALLOWANCE or not self.is_count(state, operands[2], kinds[2]):
-                self.fail(f"{END} is not handed the allowance and the count")
-            return self.noted(replace(state, stands=ENDED, holders=frozenset()), target, ANSWER)
+            return self.storing(state, name, kinds, target)
         for kind in kinds:
             self.harmless(state, kind, f"is handed to {name}")
         return state if projections else self.noted(state, target, PLAIN)
 
-    def is_count(self, state, operand, kind):
-        """Whether an operand is the count as it is now."""
-        if kind == ZERO and operand[0] == "int":
-            return state.stands == UNBEGUN
-        return kind in (ZERO, COUNT) and operand[0] == "copy" and self.place(operand[1])[0] in state.holders
+    def begun(self, state, kinds, target):
+        """A budget begins: one for a call, with the call's own allowance."""
+        if kinds != [ALLOWANCE]:
+            self.fail(f"{BEGIN} is not handed the allowance")
+        if state.stands != UNBEGUN:
+            self.fail("a budget begins where the stores have begun")
+        return self.noted(replace(state, stands=COUNTING), target, BUDGET)
 
-    def storing(self, state, name, operands, kinds, target):
+    def storing(self, state, name, kinds, target):
         """A call that is lent the array to be written."""
         if state.stands == ENDED:
             self.fail(f"{name} is called where the stores have ended")
-        counts = [at for at, kind in enumerate(kinds) if self.is_count(state, operands[at], kind)]
         resumes = name == RESUMES == self.name and state.stands == WITHIN and LEFT in kinds
-        handed = [COUNT if at in counts else ALLOWANCE if resumes and kind == LEFT else kind for at, kind in enumerate(kinds)]
-        for at, kind in enumerate(handed):
-            if not is_harmless(kind) and kind not in (ARRAY, ALLOWANCE) and at not in counts:
+        handed = tuple(ALLOWANCE if resumes and kind == LEFT else PLAIN if is_harmless(kind) else kind for kind in kinds)
+        for kind in set(handed) - {PLAIN}:
+            if kind not in (ARRAY, ALLOWANCE, BUDGET_AT):
                 self.fail(f"{name} is handed {kind}")
-        for kind in (ARRAY, ALLOWANCE, COUNT):
             if handed.count(kind) > 1:
                 self.fail(f"{name} is handed {kind} twice")
-        if ALLOWANCE not in handed:
-            self.fail(f"{name} is not handed the allowance")
-        if not counts and state.stands != UNBEGUN and not resumes:
-            self.fail(f"{name} is not handed the count as it is now")
-        answer = self.check.read(name, tuple(PLAIN if is_harmless(kind) else kind for kind in handed))
-        return self.behind_stores(state, answer, target)
+        if (BUDGET_AT in handed) == (ALLOWANCE in handed):
+            self.fail(f"{name} is not handed the allowance or the budget")
+        if ALLOWANCE in handed and state.stands != UNBEGUN and not resumes:
+            self.fail(f"{name} is handed the allowance where the stores have begun")
+        return self.behind_stores(state, self.check.read(name, handed), target)
 
     def behind_stores(self, state, answer, target):
-        behind = state.behind_stores()
+        if answer == BUDGET_AT:
+            return self.noted(state, target, PLAIN)
         if answer == ANSWER:
-            return self.noted(replace(behind, stands=ENDED), target, ANSWER)
-        return self.noted(behind, target, answer, holds=answer == COUNT)
+            return self.noted(replace(state, stands=ENDED), target, ANSWER)
+        return self.noted(replace(state, stands=COUNTING), target, answer)
 
 
 class Check:
@@ -356,7 +381,7 @@ class Check:
                 raise NotUnderstood(f"{name} is not of the form that was read:\n{found}")
 
     def read(self, name, handed):
-        """What a function answers that is lent the array: COUNT, ANSWER, or Answered."""
+        """What a function answers that is lent the array: BUDGET_AT, the budget that it was lent, BUDGET, ANSWER, or Answered."""
         key = (name, handed)
         if key not in self.answers:
             if name not in self.functions:
@@ -368,22 +393,22 @@ class Check:
         return self.answers[key]
 
     def store(self, handed):
-        if handed != (ARRAY, PLAIN, PLAIN, ALLOWANCE, COUNT):
+        if handed != (BUDGET_AT, ARRAY, PLAIN, PLAIN):
             raise NotUnderstood(f"{STORE} is handed {', '.join(handed)}")
-        return COUNT
+        return BUDGET_AT
 
     def answer(self, name, handed):
         answers = Reading(self, name, handed).answers
-        if all(isinstance(answer, Tagged) for answer in answers) and any(answer.count is not None for answer in answers):
-            counts = {answer.variant: answer.count for answer in answers}
-            if len(counts) != len(set(answers)):
-                raise NotUnderstood(f"{name}: a variant with and without the count")
-            return Answered(counts)
-        if all(answer == COUNT for answer in answers):
-            return COUNT
-        if all(answer == ANSWER or isinstance(answer, Tagged) and answer.count is None for answer in answers):
+        if len(set(answers)) == 1 and answers[0] in (BUDGET, BUDGET_AT):
+            return answers[0]
+        if all(isinstance(answer, Tagged) for answer in answers) and any(answer.budget is not None for answer in answers):
+            budgets = {answer.variant: answer.budget for answer in answers}
+            if len(budgets) != len(set(answers)):
+                raise NotUnderstood(f"{name}: a variant with and without the budget")
+            return Answered(budgets)
+        if all(answer == ANSWER or isinstance(answer, Tagged) and answer.budget is None for answer in answers):
             return ANSWER
-        raise NotUnderstood(f"{name}: answers the count on some ways alone")
+        raise NotUnderstood(f"{name}: answers the budget on some ways alone")
 
 
 def handed_by_source(taken):

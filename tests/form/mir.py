@@ -194,13 +194,15 @@ def shown(term):
 
 
 def lines(body, indent=""):
-    """Statements as lines, for a function that is pinned by its form. Calls and loops are not shown."""
+    """Statements as lines, for a function that is pinned by its form. Loops are not shown."""
     for statement in body:
         match statement:
             case "return" | "skip":
                 yield indent + statement
             case ["assign", place, value]:
                 yield f"{indent}{shown(place)} = {shown(value)}"
+            case ["call", ["function", name], operands, place]:
+                yield " ".join([f"{indent}{shown(place)} = {name}", *map(shown, listed(operands))])
             case ["cond", condition, yes, no]:
                 yield f"{indent}if {shown(condition)}"
                 yield from lines(statements(yes), indent + "    ")
