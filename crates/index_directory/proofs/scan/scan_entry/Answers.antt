@@ -12,13 +12,13 @@ use Rattle.index_layout.proofs.Entries.{mask_width}
 use Rattle.index_layout.proofs.Answers.{entry_at_holds, entry_broken}
 use Rattle.index_directory.proofs.scan.scan_entry.Goals as goal
 
-pub returns-then-entry-block : goal.returns-then-entry-block
+pub returns-then-before : goal.returns-then-before
 unfolding scan_at
-returns-then-entry-block c = rw (lt-ltb _ _ c.if-i-block.true, eq-eqb _ _ c.if-entry-block.true)
+returns-then-before c = rw (lt-ltb _ _ c.if-i-block.true, c.if-before.true)
 
-pub returns-then-i-block : goal.returns-then-i-block
+pub returns-else-before : goal.returns-else-before
 unfolding scan_at
-returns-then-i-block c = rw (lt-ltb _ _ c.if-i-block.true, ne_eqb _ _ c.if-entry-block.false)
+returns-else-before c = rw (lt-ltb _ _ c.if-i-block.true, c.if-before.false)
 
 pub returns-in_default : goal.returns-in_default
 unfolding scan_at valid_leader
