@@ -5,7 +5,7 @@ ghost use Rattle.index_rules.specs.Put.{directory_tests};
 ghost use Rattle.index_layout.specs.Headers.{Describes};
 ghost use Rattle.index_directory.specs.Scans.{verdict_of, scan_at};
 
-use index_layout::entry::{Entry, block_width, open_entry};
+use index_layout::entry::{block_width, open_entry};
 use index_layout::header::{Header, pow2};
 use replies::Refusal;
 
@@ -35,15 +35,8 @@ fn scan_entry(before: ScanStep, entry: u64, i: usize, header: Header) -> Result<
         let agree = before.agree && entry == block.leading;
         return Ok(ScanStep { block, agree });
     }
-    let depth = header.depth;
-    let Entry::At {
-        segment: _,
-        depth: local_depth,
-    } = open_entry(entry, depth, header.segments)
-    else {
-        return Err(Refusal::Broken);
-    };
-    let width = block_width(depth, local_depth);
+    let opened = open_entry(entry, header.depth, header.segments)?;
+    let width = block_width(header.depth, opened.depth);
     if i & (width - 1) != 0 {
         return Err(Refusal::Broken);
     }
