@@ -11,6 +11,7 @@ use lib.ListN.{length}
 use lib.Pow.{pow_mono}
 use Rattle.stores.specs.Lists.{each}
 use Rattle.stores.specs.Store.{word, store}
+use Rattle.stores.specs.declared.Budget.{Budget}
 use Rattle.stores.specs.Executed.{Executed}
 use Rattle.stores.proofs.Tests.{by_test}
 use Rattle.stores.proofs.Lists.{each_same}
@@ -162,12 +163,12 @@ pub joined_fit : {b : JoinedBlock} {a : List ℕ} → Joinable b a → JoinedFit
 joined_fit {b} j = record { entries = pow_mono {j = 12} j.depth_high; inside = j.inside; room = omega (arith, j.room) }
 
 -- All entries stored, from `first` on, which is the address of the block's first entry.
-pub join_done : (b : JoinedBlock) (power count e allowance due : ℕ) (a : List ℕ) (due' : ℕ) (a' : List ℕ) → power ≡ 2 ^ b.depth
+pub join_done : (b : JoinedBlock) (power count e : ℕ) (m : Budget) (a : List ℕ) (m' : Budget) (a' : List ℕ) → power ≡ 2 ^ b.depth
     → count ≡ width b.depth b.local_depth → e ≡ entry b.segment b.local_depth
-    → Executed (each (λ t. store (power + b.start + t) e ∷ []) count) allowance due a due' a'
-    → Executed (joining_of b) allowance due a due' a'
+    → Executed (each (λ t. store (power + b.start + t) e ∷ []) count) m a m' a'
+    → Executed (joining_of b) m a m' a'
 unfolding joining entry_address
-join_done b power count e allowance due a due' a' p w q x =
+join_done b power count e m a m' a' p w q x =
     rw (
       each_same (λ t. store (2 ^ b.depth + (b.start + t)) (entry b.segment b.local_depth) ∷ []) (λ t. store (power + b.start + t) e ∷ [])
           (width b.depth b.local_depth)

@@ -8,6 +8,7 @@ use lib.Dec.{ltb, eqb}
 use lib.ListN.{length}
 use Rattle.stores.specs.Lists.{pick, each}
 use Rattle.stores.specs.Store.{Store, store, word, Every}
+use Rattle.stores.specs.declared.Budget.{Budget}
 use Rattle.stores.specs.Executed.{Executed}
 use Rattle.stores.proofs.Lists.{every_each, every_pick}
 use Rattle.index_rules.specs.Layout.{depth, segments, entry_address, entry_at, local_depth}
@@ -29,12 +30,12 @@ at_most_one : (t : Bool) (s : Store) → length (pick t [] (s ∷ [])) ≤ 1
 at_most_one true s = omega arith
 at_most_one false s = omega arith
 
-module _ {h : Header} {a : List ℕ} (d : Describes h a) (count allowance due : ℕ) (counted : count ≡ 2 ^ h.depth) where
+module _ {h : Header} {a : List ℕ} (d : Describes h a) (count : ℕ) (m : Budget) (counted : count ≡ 2 ^ h.depth) where
   -- The entry that a turn reads is as it was at the start.
-  pub mend_read : (i due' : ℕ) (b : List ℕ) → Executed (each (mend_entry a (depth a)) i) allowance due a due' b
+  pub mend_read : (i : ℕ) (m' : Budget) (b : List ℕ) → Executed (each (mend_entry a (depth a)) i) m a m' b
       → word b (count + i) ≡ entry_at a (depth a) i
   unfolding mend_entry
-  mend_read i due' b p =
+  mend_read i m' b p =
       let here : count + i ≡ entry_address (depth a) i = entry_address_holds count i d counted in
       let apart : Every (λ s. s.at ≡ count + i → ⊥) (each (mend_entry a (depth a)) i) =
       every_each (λ s. s.at ≡ count + i → ⊥) (mend_entry a (depth a)) i
@@ -63,31 +64,31 @@ module _ {h : Header} {a : List ℕ} (d : Describes h a) (count allowance due : 
         (λ e. let own = leads_itself a (depth a) (segments a) i x w e in rw own at (valid_at a (depth a) (segments a) i v below))
 
   -- The block that a turn goes on with is that of its index.
-  pub mend_found : leaders_valid a (depth a) (segments a) ≡ true → (i due' : ℕ) (b : List ℕ) (x n : LedBlock) → i < count
-      → Passing a (depth a) (segments a) i x → Executed (each (mend_entry a (depth a)) i) allowance due a due' b
+  pub mend_found : leaders_valid a (depth a) (segments a) ≡ true → (i : ℕ) (m' : Budget) (b : List ℕ) (x n : LedBlock) → i < count
+      → Passing a (depth a) (segments a) i x → Executed (each (mend_entry a (depth a)) i) m a m' b
       → n ≡ pick (ltb i x.end) x (block_led_by h.depth i (word b (count + i))) → Found a (depth a) (segments a) i n
-  mend_found v i due' b x n k w p e = rw (e, mend_read i due' b p, ← d.depth_read) (mend_block v i k x w)
+  mend_found v i m' b x n k w p e = rw (e, mend_read i m' b p, ← d.depth_read) (mend_block v i k x w)
 
-  pub mend_count : (i due' : ℕ) (b : List ℕ) (due'' : ℕ) (b' : List ℕ) (x : LedBlock)
-      → Executed (correction b (count + i) x.leading) allowance due' b due'' b'
-      → due'' ≤ due' + 1
-  mend_count i due' b due'' b' x q =
+  pub mend_count : (i : ℕ) (m' : Budget) (b : List ℕ) (m'' : Budget) (b' : List ℕ) (x : LedBlock)
+      → Executed (correction b (count + i) x.leading) m' b m'' b'
+      → m''.due ≤ m'.due + 1
+  mend_count i m' b m'' b' x q =
       omega (arith, q.count, at_most_one (eqb (word b (count + i)) x.leading) (store (count + i) x.leading))
 
-  pub mend_turn : (i due' : ℕ) (b : List ℕ) (due'' : ℕ) (b' : List ℕ) (x : LedBlock) → Found a (depth a) (segments a) i x
-      → Executed (each (mend_entry a (depth a)) i) allowance due a due' b
-      → Executed (correction b (count + i) x.leading) allowance due' b due'' b'
-      → Executed (each (mend_entry a (depth a)) (i + 1)) allowance due a due'' b'
+  pub mend_turn : (i : ℕ) (m' : Budget) (b : List ℕ) (m'' : Budget) (b' : List ℕ) (x : LedBlock) → Found a (depth a) (segments a) i x
+      → Executed (each (mend_entry a (depth a)) i) m a m' b
+      → Executed (correction b (count + i) x.leading) m' b m'' b'
+      → Executed (each (mend_entry a (depth a)) (i + 1)) m a m'' b'
   unfolding mend_entry
-  mend_turn i due' b due'' b' x f p q =
+  mend_turn i m' b m'' b' x f p q =
       let here : count + i ≡ entry_address (depth a) i = entry_address_holds count i d counted in
-      let read : word b (count + i) ≡ entry_at a (depth a) i = mend_read i due' b p in
+      let read : word b (count + i) ≡ entry_at a (depth a) i = mend_read i m' b p in
       let lead : x.leading ≡ leading_entry a (depth a) i = sym f.leading_is in
-      after_turn (mend_entry a (depth a)) i allowance due a due' b due'' b' p (rw (read, lead, here) at q)
+      after_turn (mend_entry a (depth a)) i m a m' b m'' b' p (rw (read, lead, here) at q)
 
-  pub mend_end : (i due' : ℕ) (b : List ℕ) → i ≡ count → Executed (each (mend_entry a (depth a)) i) allowance due a due' b
-      → Executed (mending a) allowance due a due' b
+  pub mend_end : (i : ℕ) (m' : Budget) (b : List ℕ) → i ≡ count → Executed (each (mend_entry a (depth a)) i) m a m' b
+      → Executed (mending a) m a m' b
   unfolding mending
-  mend_end i due' b e p =
+  mend_end i m' b e p =
       let all : i ≡ 2 ^ depth a = rw d.depth_read (omega arith) in
       rw all at p

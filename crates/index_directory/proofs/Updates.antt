@@ -10,6 +10,7 @@ use lib.ListN.{length}
 use lib.Pow.{pow_mono}
 use Rattle.stores.specs.Lists.{each}
 use Rattle.stores.specs.Store.{Store, store}
+use Rattle.stores.specs.declared.Budget.{Budget}
 use Rattle.stores.specs.Executed.{Executed}
 use Rattle.stores.proofs.Lists.{each_zero, each_suc, each_same, length_each_ones}
 use Rattle.stores.proofs.Stores.{executed_append}
@@ -83,13 +84,13 @@ halves_fit {h} p =
 
 -- Both halves stored: `left` is the address of the block's first entry, `half` the width of a half.
 pub update_done : {h : Halves} {a : List ℕ} → Updatable h a
-    → (power half x y allowance due due' : ℕ) (b : List ℕ) (due'' : ℕ) (b' : List ℕ)
+    → (power half x y : ℕ) (m m' : Budget) (b : List ℕ) (m'' : Budget) (b' : List ℕ)
     → power ≡ 2 ^ h.depth → half ≡ width h.depth (h.local_depth + 1)
     → x ≡ entry h.segment (h.local_depth + 1) → y ≡ entry h.new_segment (h.local_depth + 1)
-    → Executed (filling (power + h.start + half) half y) allowance due a due' b
-    → Executed (filling (power + h.start) half x) allowance due' b due'' b'
-    → Executed (updating_of h) allowance due a due'' b'
-update_done {h} {a} u power half x y allowance due due' b due'' b' e w p q r l =
+    → Executed (filling (power + h.start + half) half y) m a m' b
+    → Executed (filling (power + h.start) half x) m' b m'' b'
+    → Executed (updating_of h) m a m'' b'
+update_done {h} {a} u power half x y m m' b m'' b' e w p q r l =
     let one : h.local_depth + 1 ≡ suc h.local_depth = add-one h.local_depth in
     rw (updating_halves h.depth h.local_depth h.start h.segment h.new_segment u.not_full, ← one, ← e, ← w, ← p, ← q)
-    (executed_append (filling (power + h.start + half) half y) (filling (power + h.start) half x) allowance due a due' b due'' b' r l)
+    (executed_append (filling (power + h.start + half) half y) (filling (power + h.start) half x) m a m' b m'' b' r l)

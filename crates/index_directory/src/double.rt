@@ -6,27 +6,27 @@ ghost use Rattle.index_rules.specs.Split.{doubling};
 ghost use Rattle.index_layout.specs.Headers.{Describes};
 
 use index_layout::header::{Header, pack_header, pow2};
+use stores::Budget;
 
 // Stores entry `e` of the next depth, where the present directory has `count` entries.
-fn double_entry(words: &mut [u64], count: usize, e: usize, allowance: u32, due: u32) -> u32
-    requires { (e < 2 * count) × (4 * count ≤ length words.old) × (due < 4294967295) }
-    ensures { Executed (store (2 * count + e) (word words.old (count + e / 2)) ∷ []) allowance due words.old result words.new }
+fn double_entry(words: &mut [u64], count: usize, e: usize, budget: &mut Budget)
+    requires { (e < 2 * count) × (4 * count ≤ length words.old) × (budget.old.due < 4294967295) }
+    ensures { Executed (store (2 * count + e) (word words.old (count + e / 2)) ∷ []) budget.old words.old budget.new words.new }
 {
     let entry = words[count + e / 2];
-    stores::store_word(words, 2 * count + e, entry, allowance, due)
+    budget.store(words, 2 * count + e, entry);
 }
 
 // Doubles the directory: the entries of the next depth, rising, then word 0. The entries that are
 // read, those of the present depth, are none that are written.
-pub fn double(words: &mut [u64], header: Header, allowance: u32, due: u32) -> u32
-    requires { Describes header words.old × (header.depth < header.max_depth) × (due ≤ due_limit) }
-    ensures { Executed (doubling words.old) allowance due words.old result words.new }
+pub fn double(words: &mut [u64], header: Header, budget: &mut Budget)
+    requires { Describes header words.old × (header.depth < header.max_depth) × (budget.old.due ≤ due_limit) }
+    ensures { Executed (doubling words.old) budget.old words.old budget.new words.new }
 {
     let count = pow2(header.depth);
-    let mut due = due;
     for e in 0..2 * count {
-        due = double_entry(words, count, e, allowance, due);
+        double_entry(words, count, e, budget);
     }
     let word = pack_header(header.depth + 1, header.max_depth, header.segments);
-    stores::store_word(words, 0, word, allowance, due)
+    budget.store(words, 0, word);
 }

@@ -5,6 +5,7 @@ ghost use Rattle.index_directory.specs.Buddies.{joining_of, Joinable};
 
 use index_layout::entry::{block_width, pack_entry};
 use index_layout::header::pow2;
+use stores::Budget;
 
 // A block of the directory of this depth: its local depth, its first index and its segment.
 #[derive(Clone, Copy)]
@@ -17,16 +18,14 @@ pub struct JoinedBlock {
 
 // Stores the entry of the whole block, from left to right: from the first store on it leads the block, so
 // that mending finishes the merge.
-pub fn join_entries(words: &mut [u64], block: JoinedBlock, allowance: u32, due: u32) -> u32
-    requires { Joinable block words.old × (due ≤ due_limit) }
-    ensures { Executed (joining_of block) allowance due words.old result words.new }
+pub fn join_entries(words: &mut [u64], block: JoinedBlock, budget: &mut Budget)
+    requires { Joinable block words.old × (budget.old.due ≤ due_limit) }
+    ensures { Executed (joining_of block) budget.old words.old budget.new words.new }
 {
     let first = pow2(block.depth) + block.start;
     let count = block_width(block.depth, block.local_depth);
     let entry = pack_entry(block.segment, block.local_depth);
-    let mut due = due;
     for t in 0..count {
-        due = stores::store_word(words, first + t, entry, allowance, due);
+        budget.store(words, first + t, entry);
     }
-    due
 }

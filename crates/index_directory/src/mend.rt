@@ -10,6 +10,7 @@ ghost use Rattle.index_directory.specs.Scans.{block_led_by, LeadersRead};
 use crate::scan::LedBlock;
 use index_layout::entry::{block_width, local_depth_of};
 use index_layout::header::{Header, pow2};
+use stores::Budget;
 
 // The block of index `i`, whose entry is `entry`: the block of the index before, until it ends.
 fn next_block(block: LedBlock, entry: u64, i: usize, depth: u32) -> LedBlock
@@ -27,31 +28,26 @@ fn next_block(block: LedBlock, entry: u64, i: usize, depth: u32) -> LedBlock
 }
 
 // Stores the leading entry at `at`, if another stands there.
-fn mend_entry(words: &mut [u64], at: usize, leading: u64, allowance: u32, due: u32) -> u32
-    requires { (at < length words.old) × (due < 4294967295) }
-    ensures { Executed (correction words.old at leading) allowance due words.old result words.new }
+fn mend_entry(words: &mut [u64], at: usize, leading: u64, budget: &mut Budget)
+    requires { (at < length words.old) × (budget.old.due < 4294967295) }
+    ensures { Executed (correction words.old at leading) budget.old words.old budget.new words.new }
 {
-    let entry = words[at];
-    if entry != leading {
-        return stores::store_word(words, at, leading, allowance, due);
+    if words[at] != leading {
+        budget.store(words, at, leading);
     }
-    due
 }
 
 // One pass over the entries: each that differs from its block's leading entry gets that entry. A
 // leading entry is never stored, so the one that was read stays right under every allowance.
-pub fn mend_entries(words: &mut [u64], header: Header, allowance: u32, due: u32) -> u32
-    requires { LeadersRead header words.old × (due ≤ due_limit) }
-    ensures { Executed (mending words.old) allowance due words.old result words.new }
+pub fn mend_entries(words: &mut [u64], header: Header, budget: &mut Budget)
+    requires { LeadersRead header words.old × (budget.old.due ≤ due_limit) }
+    ensures { Executed (mending words.old) budget.old words.old budget.new words.new }
 {
     let count = pow2(header.depth);
     let mut block = LedBlock { leading: 0, end: 0 };
-    let mut due = due;
     for i in 0..count {
         let at = count + i;
         block = next_block(block, words[at], i, header.depth);
-        let leading = block.leading;
-        due = mend_entry(words, at, leading, allowance, due);
+        mend_entry(words, at, block.leading, budget);
     }
-    due
 }

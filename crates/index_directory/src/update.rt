@@ -5,25 +5,17 @@ ghost use Rattle.index_directory.specs.Updates.{filling, updating_of, Updatable}
 
 use index_layout::entry::{block_width, pack_entry};
 use index_layout::header::pow2;
+use stores::Budget;
 
 // Stores `entry` in the `count` words from `first` on, from right to left.
-fn fill_entries(
-    words: &mut [u64],
-    first: usize,
-    count: usize,
-    entry: u64,
-    allowance: u32,
-    due: u32,
-) -> u32
-    requires { (first + count ≤ length words.old) × (due + count < 2 ^ 32) }
-    ensures { Executed (filling first count entry) allowance due words.old result words.new }
+fn fill_entries(words: &mut [u64], first: usize, count: usize, entry: u64, budget: &mut Budget)
+    requires { (first + count ≤ length words.old) × (budget.old.due + count < 2 ^ 32) }
+    ensures { Executed (filling first count entry) budget.old words.old budget.new words.new }
 {
-    let mut due = due;
     for t in 0..count {
         let from_right = count - 1 - t;
-        due = stores::store_word(words, first + from_right, entry, allowance, due);
+        budget.store(words, first + from_right, entry);
     }
-    due
 }
 
 // A block of the directory of this depth, with its local depth and its first index, and the segments
@@ -39,9 +31,9 @@ pub struct Halves {
 
 // Updates the entries of the block, from right to left: the right half gets the new segment, the left
 // half keeps its own, both one deeper.
-pub fn update_entries(words: &mut [u64], halves: Halves, allowance: u32, due: u32) -> u32
-    requires { Updatable halves words.old × (due ≤ due_limit) }
-    ensures { Executed (updating_of halves) allowance due words.old result words.new }
+pub fn update_entries(words: &mut [u64], halves: Halves, budget: &mut Budget)
+    requires { Updatable halves words.old × (budget.old.due ≤ due_limit) }
+    ensures { Executed (updating_of halves) budget.old words.old budget.new words.new }
 {
     let depth = halves.depth;
     let local_depth = halves.local_depth;
@@ -50,6 +42,6 @@ pub fn update_entries(words: &mut [u64], halves: Halves, allowance: u32, due: u3
     let right = left + half;
     let left_entry = pack_entry(halves.segment, local_depth + 1);
     let right_entry = pack_entry(halves.new_segment, local_depth + 1);
-    let due = fill_entries(words, right, half, right_entry, allowance, due);
-    fill_entries(words, left, half, left_entry, allowance, due)
+    fill_entries(words, right, half, right_entry, budget);
+    fill_entries(words, left, half, left_entry, budget);
 }

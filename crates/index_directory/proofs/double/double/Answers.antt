@@ -8,10 +8,10 @@ use Rattle.index_directory.proofs.Doubles.{doubled_entry, double_turn, double_en
 use Rattle.index_directory.proofs.double.double.Goals as goal
 
 pub loop-e-init : goal.loop-e-init
-loop-e-init c = (omega arith, omega arith, search rules, before_loop (doubled_entry c.args.words.now) _ _ _)
+loop-e-init c = (omega arith, omega arith, search rules, before_loop (doubled_entry c.args.words.now) _ _)
 
-pub double_entry-due-requires : goal.double_entry-due-requires
-double_entry-due-requires c =
+pub double_entry-requires : goal.double_entry-requires
+double_entry-requires c =
     let b = bounds c.requires.0 in
     let r = next_room c.requires.0 c.requires.1 in
     (omega arith, omega arith, omega arith)
@@ -23,11 +23,11 @@ overflow_step-e c =
 pub loop-e-preserved : goal.loop-e-preserved
 loop-e-preserved c =
     let i = c.loop-e.invariant in
-    let p = c.double_entry-due.ensures in (
+    let p = c.double_entry.ensures in (
       omega arith,
       omega (arith, p.count, i.1),
       executed_length p ∙ i.2,
-      double_turn c.requires.0 _ _ _
+      double_turn c.requires.0 _ _
           c.pow2-count.ensures c.loop-e.e _ _ _ _
           (omega arith) i.3 p,
     )
@@ -35,21 +35,21 @@ loop-e-preserved c =
 pub pack_header-word-requires : goal.pack_header-word-requires
 pack_header-word-requires c = let b = bounds c.requires.0 in (omega arith, omega arith, omega arith)
 
-pub store_word-requires : goal.store_word-requires
-store_word-requires c =
+pub store-requires : goal.store-requires
+store-requires c =
     let b = bounds c.requires.0 in
     (omega arith, omega arith)
 
 pub shape_of-words : goal.shape_of-words
-shape_of-words c = executed_length c.store_word.ensures ∙ c.loop-e.invariant.2
+shape_of-words c = executed_length c.store.ensures ∙ c.loop-e.invariant.2
 
 pub returns : goal.returns
 returns c =
-    double_end c.requires.0 _ _ _
+    double_end c.requires.0 _ _
     c.pow2-count.ensures
     c.loop-e.e _ _ _ _ _
     (omega arith) c.pack_header-word.ensures
-    c.loop-e.invariant.3 c.store_word.ensures
+    c.loop-e.invariant.3 c.store.ensures
 
 pub pow2-count-requires : goal.pow2-count-requires
 pow2-count-requires c = let b = bounds c.requires.0 in omega arith

@@ -10,6 +10,6 @@ use Rattle.index_directory.proofs.double.double.Given as goal
 abbrev pub invariant-loop-e : goal.invariant-loop-e
 invariant-loop-e l =
     (l.e ≤ l.e-end)
-    × (l.due ≡ l.due-2 + l.e)
+    × (l.budget.due ≡ l.initial.budget.due + l.e)
     × (length l.words ≡ length l.initial.words)
-    × Executed (each (doubled_entry l.initial.words) l.e) l.allowance l.due-2 l.initial.words l.due l.words
+    × Executed (each (doubled_entry l.initial.words) l.e) l.initial.budget l.initial.words l.budget l.words

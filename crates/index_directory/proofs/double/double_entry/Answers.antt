@@ -2,4 +2,4 @@
 use Rattle.index_directory.proofs.double.double_entry.Goals as goal
 
 pub returns : goal.returns
-returns c = c.store_word.ensures
+returns c = c.store.ensures

@@ -13,10 +13,10 @@ pub overflow_add-first : goal.overflow_add-first
 overflow_add-first c = let f = joined_fit c.requires.0 in omega (arith, f.entries, f.inside, c.pow2.ensures)
 
 pub loop-t-init : goal.loop-t-init
-loop-t-init c = (omega arith, omega arith, search rules, before_loop (λ (t : ℕ). store (_ + t) _ ∷ []) _ _ _)
+loop-t-init c = (omega arith, omega arith, search rules, before_loop (λ (t : ℕ). store (_ + t) _ ∷ []) _ _)
 
-pub store_word-due-requires : goal.store_word-due-requires
-store_word-due-requires c =
+pub store-requires : goal.store-requires
+store-requires c =
     let f = joined_fit c.requires.0 in
     let i = c.loop-t.invariant in
     let w = c.block_width-count.ensures in (
@@ -28,16 +28,16 @@ pub loop-t-preserved : goal.loop-t-preserved
 loop-t-preserved c =
     let i = c.loop-t.invariant in
     let t = c.loop-t.t in
-    let p = c.store_word-due.ensures in (
+    let p = c.store.ensures in (
       omega arith,
       omega (arith, p.count, i.1),
       executed_length p ∙ i.2,
-      after_turn (λ (t : ℕ). store (_ + t) _ ∷ []) t _ _ _ _ _ _ _ i.3 p,
+      after_turn (λ (t : ℕ). store (_ + t) _ ∷ []) t _ _ _ _ _ _ i.3 p,
     )
 
 pub returns : goal.returns
 returns c =
     let b = c.args.block in
     let all : c.loop-t.t ≡ c.block_width-count.result = omega arith in
-    join_done b _ _ _ _ _ _ _ _ c.pow2.ensures c.block_width-count.ensures
+    join_done b _ _ _ _ _ _ _ c.pow2.ensures c.block_width-count.ensures
     c.pack_entry-entry.ensures (rw all at c.loop-t.invariant.3)

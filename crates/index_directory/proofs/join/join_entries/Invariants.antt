@@ -11,9 +11,9 @@ use Rattle.index_directory.proofs.join.join_entries.Given as goal
 abbrev pub invariant-loop-t : goal.invariant-loop-t
 invariant-loop-t l =
     (l.t ≤ l.count)
-    × (l.due ≡ l.due-2 + l.t)
+    × (l.budget.due ≡ l.initial.budget.due + l.t)
     × (length l.words ≡ length l.initial.words)
-    × Executed (each (λ (i : ℕ). store (l.first + i) l.entry ∷ []) l.t) l.allowance l.due-2 l.initial.words l.due l.words
+    × Executed (each (λ (i : ℕ). store (l.first + i) l.entry ∷ []) l.t) l.initial.budget l.initial.words l.budget l.words
 
 abbrev pub decreases-loop-t : goal.decreases-loop-t
 decreases-loop-t l = l.count - l.t

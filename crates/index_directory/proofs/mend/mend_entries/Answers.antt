@@ -13,7 +13,7 @@ use Rattle.index_directory.proofs.mend.mend_entries.Goals as goal
 pub loop-i-init : goal.loop-i-init
 loop-i-init c =
     let a = c.args.words.now in
-    (omega arith, omega arith, search rules, at_start _ _ _, before_loop (mend_entry a (depth a)) _ _ _)
+    (omega arith, omega arith, search rules, at_start _ _ _, before_loop (mend_entry a (depth a)) _ _)
 
 pub next_block-block-requires : goal.next_block-block-requires
 next_block-block-requires c =
@@ -23,14 +23,14 @@ next_block-block-requires c =
       omega arith,
       λ e.
           rw
-          (mend_read c.requires.0.0 _ _ _ c.pow2-count.ensures c.loop-i.i _ _ i.4)
-          (mend_depth c.requires.0.0 _ 0 0 c.pow2-count.ensures
+          (mend_read c.requires.0.0 _ _ c.pow2-count.ensures c.loop-i.i _ _ i.4)
+          (mend_depth c.requires.0.0 _ c.args.budget.now c.pow2-count.ensures
           c.requires.0.1 c.loop-i.i c.loop-i-test.true
           c.loop-i.block i.3 e),
     )
 
-pub mend_entry-due-requires : goal.mend_entry-due-requires
-mend_entry-due-requires c =
+pub mend_entry-requires : goal.mend_entry-requires
+mend_entry-requires c =
     let b = bounds c.requires.0.0 in
     (omega arith, omega arith)
 
@@ -45,17 +45,17 @@ loop-i-preserved c =
     let k = c.pow2-count.ensures in
     let i = c.loop-i.invariant in
     let n = c.next_block-block.result in
-    let p = c.mend_entry-due.ensures in
-    let f = mend_found d _ _ _ k c.requires.0.1
+    let p = c.mend_entry.ensures in
+    let f = mend_found d _ _ k c.requires.0.1
     c.loop-i.i _ _
     c.loop-i.block n
     c.loop-i-test.true i.3 i.4
     c.next_block-block.ensures in (
       omega arith,
-      omega (arith, i.1, mend_count d _ _ 0 k c.loop-i.i _ _ _ _ n p),
+      omega (arith, i.1, mend_count d _ c.args.budget.now k c.loop-i.i _ _ _ _ n p),
       executed_length p ∙ i.2,
       f.passing,
-      mend_turn d _ _ _ k c.loop-i.i _ _ _ _ n f i.4 p,
+      mend_turn d _ _ k c.loop-i.i _ _ _ _ n f i.4 p,
     )
 
 pub shape_of-words : goal.shape_of-words
@@ -63,7 +63,7 @@ shape_of-words c = c.loop-i.invariant.2
 
 pub returns : goal.returns
 returns c =
-    mend_end c.requires.0.0 _ _ _ c.pow2-count.ensures c.loop-i.i _ _ (omega arith)
+    mend_end c.requires.0.0 _ _ c.pow2-count.ensures c.loop-i.i _ _ (omega arith)
     c.loop-i.invariant.4
 
 pub pow2-count-requires : goal.pow2-count-requires

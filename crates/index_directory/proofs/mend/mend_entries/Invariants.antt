@@ -12,10 +12,10 @@ use Rattle.index_directory.proofs.mend.mend_entries.Given as goal
 abbrev pub invariant-loop-i : goal.invariant-loop-i
 invariant-loop-i l =
     (l.i ≤ l.count)
-    × (l.due ≤ l.due-2 + l.i)
+    × (l.budget.due ≤ l.initial.budget.due + l.i)
     × (length l.words ≡ length l.initial.words)
     × Passing l.initial.words (depth l.initial.words) (segments l.initial.words) l.i l.block
-    × Executed (each (mend_entry l.initial.words (depth l.initial.words)) l.i) l.allowance l.due-2 l.initial.words l.due l.words
+    × Executed (each (mend_entry l.initial.words (depth l.initial.words)) l.i) l.initial.budget l.initial.words l.budget l.words
 
 abbrev pub decreases-loop-i : goal.decreases-loop-i
 decreases-loop-i l = l.count - l.i

@@ -12,22 +12,22 @@ use Rattle.index_directory.proofs.update.fill_entries.Goals as goal
 pub loop-t-init : goal.loop-t-init
 loop-t-init c =
     let a = c.args in
-    (omega arith, omega arith, search rules, before_loop (λ (t : ℕ). store (a.first + (a.count - suc t)) a.entry ∷ []) _ _ _)
+    (omega arith, omega arith, search rules, before_loop (λ (t : ℕ). store (a.first + (a.count - suc t)) a.entry ∷ []) _ _)
 
-pub store_word-due-requires : goal.store_word-due-requires
-store_word-due-requires c = (omega arith, omega arith)
+pub store-requires : goal.store-requires
+store-requires c = (omega arith, omega arith)
 
 pub loop-t-preserved : goal.loop-t-preserved
 loop-t-preserved c =
     let a = c.args in
     let t = c.loop-t.t in
     let i = c.loop-t.invariant in
-    let p = c.store_word-due.ensures in
+    let p = c.store.ensures in
     let same : a.count - 1 - t ≡ a.count - suc t = omega arith in (
       omega arith,
       omega (arith, p.count, i.1),
       executed_length p ∙ i.2,
-      after_turn (λ (t : ℕ). store (a.first + (a.count - suc t)) a.entry ∷ []) t _ _ _ _ _ _ _ i.3 (rw (← same) p),
+      after_turn (λ (t : ℕ). store (a.first + (a.count - suc t)) a.entry ∷ []) t _ _ _ _ _ _ i.3 (rw (← same) p),
     )
 
 pub shape_of-words : goal.shape_of-words
