@@ -2,7 +2,7 @@
 use Prim.Native.Nat.{ℕ, zero, suc, ◌+◌, ◌*◌, ◌/◌, ◌<◌}
 use lib.ListN.{length, get_or}
 use Rattle.std.specs.Simd.{first_chunks}
-use Rattle.index_segment.proofs.Words.{pair_word}
+use Rattle.index_segment.proofs.Words.{pair_at, pair_key, key_word}
 use native.Mathlib.Nat.{add-zero, eq-or-lt_of_le, le_of_suc-le-suc, not-suc-le-zero}
 use native.Mathlib.Numerals.{add-one}
 use native.Mathlib.Omega.{arith}
@@ -130,7 +130,7 @@ module _ (words : List ℕ) (slots : List (List ℕ)) (b : ℕ) (a : List ℕ) (
   four_slots = rw (front, e) refl
 
   pub slot_passes : (p : ℕ → Bool) (j : ℕ) → j < 4 → passes p a (4 * b + j) ≡ p (get_or (get_or slots j []) 0 0)
-  slot_passes p j k = rw (front, e, pair_word (bucket_words a b) 4 j 0 k (omega arith), add-zero (2 * j), bucket_key a b j k) refl
+  slot_passes p j k = rw (front, e, pair_at (bucket_words a b) 4 j k, pair_key (bucket_words a b) j, key_word (bucket_words a b) j, bucket_key a b j k) refl
 
 -- Whether it has the key.
 module _ (a words : List ℕ) (b j key : ℕ) (e : words ≡ bucket_words a b) (k : j < 4) where
@@ -142,7 +142,6 @@ module _ (a words : List ℕ) (b j key : ℕ) (e : words ≡ bucket_words a b) (
 
   pub slot_has_not : (word words (2 * j) ≡ key → ⊥) → has key a (4 * b + j) ≡ false
   slot_has_not h = ne_eqb (key_at a 0 (4 * b + j)) key (λ q. h (sym bucket_slot ∙ q))
-
 
 -- ---- The choice of a slot
 

@@ -8,8 +8,9 @@ ghost use Rattle.index_segment.specs.Answers.{choice_of};
 
 use crate::bucket::{Bucket, bucket_at, window_bucket};
 use crate::live::is_live;
+use crate::slot::slots;
 use index_layout::key::Block;
-use index_layout::{BUCKET_SLOTS, SLOT_WORDS, WINDOW_BUCKETS};
+use index_layout::{BUCKET_SLOTS, WINDOW_BUCKETS};
 
 // Where a put goes: to the slot that has the key, into the slot for a new key, or nowhere, since the
 // probe window is full of other live keys.
@@ -26,8 +27,7 @@ fn first_slot<F: Fn(u64) -> bool>(bucket: Bucket, number: usize, passes: F) -> O
     requires callable { F.IsAlwaysCallable passes }
     ensures { FirstPassing (F.post passes) bucket.words number (option_of result) }
 {
-    let (slots, _) = bucket.words.as_chunks::<SLOT_WORDS>();
-    for (j, [key, _value]) in slots.iter().enumerate() {
+    for (j, [key, _value]) in slots(&bucket.words).iter().enumerate() {
         if passes(*key) {
             return Some(BUCKET_SLOTS * number + j);
         }

@@ -12,7 +12,7 @@ pub returns-then-passes : goal.returns-then-passes
 returns-then-passes g c =
     let u = c.args in
     let j = c.loop-j.j in
-    let front = c.as_chunks.ensures.front in
+    let front = c.slots-key-items.ensures.pairs in
     λ p says a e.
     let k : j < 4 = omega (arith, four_slots _ _ u.number a e front) in
     let passed = slot_passes _ _ u.number a e front p j k ∙ sym (says _ _ c.passes.ensures) ∙ c.if-passes.true in
@@ -22,7 +22,7 @@ pub loop-j-preserved : goal.loop-j-preserved
 loop-j-preserved g c =
     let u = c.args in
     let j = c.loop-j.j in
-    let front = c.as_chunks.ensures.front in
+    let front = c.slots-key-items.ensures.pairs in
     λ p says a e.
     let k : j < 4 = omega (arith, four_slots _ _ u.number a e front) in
     let failed = slot_passes _ _ u.number a e front p j k ∙ sym (says _ _ c.passes.ensures) ∙ c.if-passes.false in
@@ -32,5 +32,5 @@ pub returns : goal.returns
 returns g c =
     let j = c.loop-j.j in
     λ p says a e.
-    let all : j ≡ 4 = omega (arith, four_slots _ _ c.args.number a e c.as_chunks.ensures.front) in
+    let all : j ≡ 4 = omega (arith, four_slots _ _ c.args.number a e c.slots-key-items.ensures.pairs) in
     sym (no_slot _ c.args.number (rw all at (c.loop-j.invariant p says a e)))
