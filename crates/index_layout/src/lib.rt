@@ -14,6 +14,9 @@ pub const SLOTS: usize = 64;
 
 pub const BUCKETS: usize = 16;
 
+// The words of a slot: the key, then the value.
+pub const SLOT_WORDS: usize = 2;
+
 // The slots and the words of a bucket, and the buckets of a probe window.
 pub const BUCKET_SLOTS: usize = 4;
 

@@ -10,9 +10,9 @@ use Rattle.stores.specs.Store.{store}
 use Rattle.stores.proofs.Tests.{by_test}
 use Rattle.index_rules.specs.Split.{moves, copy_slot}
 use Rattle.index_segment.specs.Slot.{SlotHolds}
-use Rattle.index_segment.specs.declared.Held.{Held}
+use Rattle.cells.specs.declared.Record.{Record}
 
-module _ (a : List ℕ) (L bits j : ℕ) (h : Held) where
+module _ (a : List ℕ) (L bits j : ℕ) (h : Record) where
   pub copy_moved : SlotHolds a j h → moves a 0 L bits j ≡ true
       → copy_slot a 0 0 L bits j ≡ store (2 * j + 1) h.value ∷ store (2 * j) h.key ∷ []
   unfolding copy_slot

@@ -4,6 +4,7 @@ use native.Mathlib.Nat.{zero-add}
 use mathlib.Core.Path.{◌≡◌, refl}
 use mathlib.Core.Bool.{Bool, true, false}
 use mathlib.Core.List.{List, [], ◌∷◌}
+use lib.ListN.{get_or}
 use borrow.Author.Tests.{eq-eqb, ne_eqb}
 use Rattle.stores.specs.Lists.{any_below}
 use Rattle.stores.specs.Store.{store, word}
@@ -13,7 +14,7 @@ use Rattle.index_rules.specs.Merge.{live_left, live_right, both_live, merge_reco
 use Rattle.index_layout.specs.declared.key.Block.{Block}
 use Rattle.index_layout.specs.Blocks.{shared}
 use Rattle.index_segment.specs.Merge.{both_keys_live}
-use Rattle.index_segment.proofs.Words.{key_word, value_word_holds}
+use Rattle.index_segment.proofs.Words.{pair, pair_key, pair_value}
 
 module _ (M bits j own key value : ℕ) where
   -- The right segment's record is live.
@@ -37,11 +38,11 @@ module _ (M bits j own key value : ℕ) where
     unfolding merge_record
     merged_cleared n l = rw (t, ne_eqb own 0 n, l, zero-add (2 * j))
 
--- The stores for slot j of two segments that are read as values, by their words.
+-- The stores for slot j of two segments that are read as values, by their pairs.
 pub slot_merged : (left right : List ℕ) (M bits j : ℕ)
-    → merge_record 0 M bits j (word left (2 * j)) (word right (2 * j)) (word right (2 * j + 1)) ≡ merge_slot left 0 right 0 M bits j
+    → merge_record 0 M bits j (get_or (pair left j) 0 0) (get_or (pair right j) 0 0) (get_or (pair right j) 1 0) ≡ merge_slot left 0 right 0 M bits j
 unfolding merge_slot
-slot_merged left right M bits j = rw (key_word left j, key_word right j, value_word_holds right j)
+slot_merged left right M bits j = rw (pair_key left j, pair_key right j, pair_value right j)
 
 -- ---- The slots below n
 
@@ -55,16 +56,16 @@ module _ (left right : List ℕ) (joined : Block) where
   both_none = refl
 
   -- One more slot that is not live on both.
-  pub both_next : (j : ℕ) → any_below (both_at left right joined) j ≡ false → both_keys_live joined (word left (2 * j)) (word right (2 * j)) ≡ false
+  pub both_next : (j : ℕ) → any_below (both_at left right joined) j ≡ false → both_keys_live joined (get_or (pair left j) 0 0) (get_or (pair right j) 0 0) ≡ false
       → any_below (both_at left right joined) (suc j) ≡ false
   unfolding any_below
-  both_next j e t = rw (e, key_word left j, key_word right j, t)
+  both_next j e t = rw (e, ← pair_key left j, ← pair_key right j, t)
 
   -- One that is, and none in all.
-  pub both_found : (j : ℕ) → j < 64 → both_keys_live joined (word left (2 * j)) (word right (2 * j)) ≡ true
+  pub both_found : (j : ℕ) → j < 64 → both_keys_live joined (get_or (pair left j) 0 0) (get_or (pair right j) 0 0) ≡ true
       → both_live left 0 right 0 joined.local_depth (shared joined) ≡ true
   unfolding both_live
-  both_found j h t = any_true (both_at left right joined) 64 j h (rw (key_word left j, key_word right j) t)
+  both_found j h t = any_true (both_at left right joined) 64 j h (rw (← pair_key left j, ← pair_key right j) t)
 
   pub both_absent : (j : ℕ) → j ≡ 64 → any_below (both_at left right joined) j ≡ false
       → both_live left 0 right 0 joined.local_depth (shared joined) ≡ false

@@ -4,10 +4,15 @@ use native.Mathlib.Nat.{add-zero, eq-or-lt_of_le, le_of_suc-le-suc, not-suc-le-z
 use native.Mathlib.Numerals.{add-one}
 use native.Mathlib.Omega.{arith}
 use mathlib.Core.Path.{◌≡◌, ◌∙◌}
-use mathlib.Core.Bool.{true, false}
+use mathlib.Core.Bool.{Bool, true, false}
 use mathlib.Core.List.{List, [], ◌∷◌, ◌++◌}
 use mathlib.Core.Logic.{⊎_elim}
-use lib.ListN.{length, set, length-append}
+use lib.ListN.{length, get_or, set, length-append}
+use Rattle.std.specs.List.{count_by}
+use Rattle.std.specs.Prelude.{cond}
+use Rattle.std.specs.Simd.{first_chunks}
+use Rattle.std.proofs.lemmas.List.Sums.{sum_by-append}
+use Rattle.index_segment.proofs.Words.{pair, pair_key, pairs_more}
 use Rattle.stores.specs.Lists.{each}
 use Rattle.stores.proofs.Lists.{each_zero, each_suc}
 use Rattle.stores.proofs.Tests.{by_test}
@@ -16,7 +21,7 @@ use Rattle.index_rules.specs.Keys.{live}
 use Rattle.index_rules.specs.Listing.{Record, live_record, words_of}
 use Rattle.index_laws.proofs.Listing.{words_none, words_one}
 use Rattle.index_segment.specs.Slot.{SlotHolds}
-use Rattle.index_segment.specs.declared.Held.{Held}
+use Rattle.cells.specs.declared.Record.{Record as CellRecord}
 use Rattle.stores.specs.Written.{Written}
 use Rattle.stores.proofs.Written.{written_none, written_pair}
 
@@ -69,10 +74,24 @@ module _ (a : List ℕ) (L bits : ℕ) where
       (λ (q : j < n). rw (← add-one n) (omega (arith, count_room j n q t, count_more n)))
       (eq-or-lt_of_le (le_of_suc-le-suc k))
 
+-- The pairs whose key is live are as many.
+module _ (a : List ℕ) (L bits : ℕ) where
+  -- A pair's key is live.
+  abbrev pub pair_lives : (slot : List ℕ) → Bool
+  pair_lives slot = live L bits (get_or slot 0 0)
+
+  pub count_pairs : (n : ℕ) → count_by pair_lives (first_chunks 2 n a) ≡ length (records_below a L bits n)
+  count_pairs zero = rw (records_none a L bits)
+  count_pairs (suc n) =
+      rw (pairs_more n a, sum_by-append (λ s. cond (pair_lives s) 1 0) (first_chunks 2 n a) (pair a n ∷ []), pair_key a n, count_pairs n, ← add-one n)
+      (by_test (live L bits (key_at a 0 n))
+      (λ t. rw (count_live a L bits n t, t))
+      (λ t. rw (count_stale a L bits n t, t) (add-zero _)))
+
 -- ---- Records as words
 
 -- A slot's record written, or not, by its key.
-module _ (a : List ℕ) (L bits j : ℕ) (h : Held) (k : SlotHolds a j h) (at : ℕ) (l : List ℕ) where
+module _ (a : List ℕ) (L bits j : ℕ) (h : CellRecord) (k : SlotHolds a j h) (at : ℕ) (l : List ℕ) where
   pub written_live : live L bits h.key ≡ true → at + 2 ≤ length l
       → Written (words_of (live_record a 0 L bits j)) at l (at + 2) (set (set l at h.key) (at + 1) h.value)
   written_live t room =

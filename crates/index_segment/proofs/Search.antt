@@ -1,6 +1,9 @@
 -- The search through the buckets of a probe window and the slots of a bucket, turn by turn.
-use Prim.Native.Nat.{ℕ, zero, suc, ◌+◌, ◌*◌, ◌<◌}
-use native.Mathlib.Nat.{eq-or-lt_of_le, le_of_suc-le-suc, not-suc-le-zero}
+use Prim.Native.Nat.{ℕ, zero, suc, ◌+◌, ◌*◌, ◌/◌, ◌<◌}
+use lib.ListN.{length, get_or}
+use Rattle.std.specs.Simd.{first_chunks}
+use Rattle.index_segment.proofs.Words.{pair_at, pair_key, key_word}
+use native.Mathlib.Nat.{add-zero, eq-or-lt_of_le, le_of_suc-le-suc, not-suc-le-zero}
 use native.Mathlib.Numerals.{add-one}
 use native.Mathlib.Omega.{arith}
 use borrow.Author.Tests.{eq-eqb, ne_eqb}
@@ -20,7 +23,7 @@ use Rattle.index_rules.specs.Keys.{live, slots_of, window, window_bucket}
 use Rattle.index_rules.specs.Slots.{hit, is_empty, choose, chosen, found}
 use Rattle.index_laws.proofs.Keys.{slots_each, window_each}
 use Rattle.index_laws.proofs.Slots.{slot_by_live}
-use Rattle.index_segment.specs.Bucket.{bucket_words, has, usable}
+use Rattle.index_segment.specs.Bucket.{bucket_words, passes, has, usable}
 
 first_nothing : (p : ℕ → Bool) → first_in p [] ≡ none
 unfolding first_in
@@ -121,7 +124,15 @@ bucket_key a b (suc (suc zero)) k = ap (word a) (omega arith)
 bucket_key a b (suc (suc (suc zero))) k = ap (word a) (omega arith)
 bucket_key a b (suc (suc (suc (suc j)))) k = absurd (omega arith)
 
--- Whether slot j of a bucket has the key, by the bucket's word.
+-- The words of a bucket, two by two: its four slots, and whether the key of one passes a test.
+module _ (words : List ℕ) (slots : List (List ℕ)) (b : ℕ) (a : List ℕ) (e : words ≡ bucket_words a b) (front : slots ≡ first_chunks 2 (length words / 2) words) where
+  pub four_slots : length slots ≡ 4
+  four_slots = rw (front, e) refl
+
+  pub slot_passes : (p : ℕ → Bool) (j : ℕ) → j < 4 → passes p a (4 * b + j) ≡ p (get_or (get_or slots j []) 0 0)
+  slot_passes p j k = rw (front, e, pair_at (bucket_words a b) 4 j k, pair_key (bucket_words a b) j, key_word (bucket_words a b) j, bucket_key a b j k) refl
+
+-- Whether it has the key.
 module _ (a words : List ℕ) (b j key : ℕ) (e : words ≡ bucket_words a b) (k : j < 4) where
   bucket_slot : key_at a 0 (4 * b + j) ≡ word words (2 * j)
   bucket_slot = rw e (sym (bucket_key a b j k))
@@ -131,9 +142,6 @@ module _ (a words : List ℕ) (b j key : ℕ) (e : words ≡ bucket_words a b) (
 
   pub slot_has_not : (word words (2 * j) ≡ key → ⊥) → has key a (4 * b + j) ≡ false
   slot_has_not h = ne_eqb (key_at a 0 (4 * b + j)) key (λ q. h (sym bucket_slot ∙ q))
-
-  pub slot_usable : (L bits : ℕ) (t : Bool) → t ≡ live L bits (word words (2 * j)) → usable L bits a (4 * b + j) ≡ not t
-  slot_usable L bits t h = rw (bucket_slot, h)
 
 -- ---- The choice of a slot
 

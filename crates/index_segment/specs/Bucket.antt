@@ -30,3 +30,12 @@ usable L bits segment j = not (live L bits (key_at segment 0 j))
 -- In every segment whose bucket b has these words, the answer is the first slot of that bucket that passes the test.
 abbrev pub FirstInBucket : (test : List ℕ → ℕ → Bool) (words : List ℕ) (b : ℕ) (answer : Option ℕ) → Type 0
 FirstInBucket test words b answer = (segment : List ℕ) → words ≡ bucket_words segment b → answer ≡ first_in (test segment) (slots_of b)
+
+-- Slot j of a segment has a key that passes.
+abbrev pub passes : (p : ℕ → Bool) → List ℕ → (j : ℕ) → Bool
+passes p segment j = p (key_at segment 0 j)
+
+-- The answer is the first slot whose key passes the test p, where each call on a word can answer only what p says.
+abbrev pub FirstPassing : (answers : ℕ → Bool → Type 0) (words : List ℕ) (b : ℕ) (answer : Option ℕ) → Type 0
+FirstPassing answers words b answer =
+    (p : ℕ → Bool) → ((key : ℕ) (t : Bool) → answers key t → t ≡ p key) → FirstInBucket (passes p) words b answer

@@ -6,14 +6,14 @@ use Rattle.index_rules.specs.Layout.{key_at, value_at}
 use Rattle.index_rules.specs.Split.{copy_slot}
 use Rattle.index_layout.specs.declared.key.Block.{Block}
 use Rattle.index_layout.specs.Blocks.{shared}
-use Rattle.index_segment.specs.declared.Held.{Held}
+use Rattle.cells.specs.declared.Record.{Record}
 
 -- The words of the segment at `base` of the array.
 abbrev pub segment_in : List ℕ → (base : ℕ) → List ℕ
 segment_in a base = take 128 (drop base a)
 
 -- Slot j of a segment holds this.
-pub record SlotHolds (segment : List ℕ) (j : ℕ) (h : Held) : Type 0 where
+pub record SlotHolds (segment : List ℕ) (j : ℕ) (h : Record) : Type 0 where
   pub key_there : key_at segment 0 j ≡ h.key
   pub value_there : value_at segment 0 j ≡ h.value
 
@@ -22,6 +22,6 @@ abbrev pub slot_copy : List ℕ → Block → (j : ℕ) → List Store
 slot_copy segment block j = copy_slot segment 0 0 block.local_depth (shared block) j
 
 -- These stores have come due in the new segment, for a slot that holds this in the old one.
-abbrev pub SlotCopied : Held → Block → (j allowance due : ℕ) (before : List ℕ) (due' : ℕ) (after : List ℕ) → Type 0
+abbrev pub SlotCopied : Record → Block → (j allowance due : ℕ) (before : List ℕ) (due' : ℕ) (after : List ℕ) → Type 0
 SlotCopied held block j allowance due before due' after =
     (segment : List ℕ) → SlotHolds segment j held → Executed (slot_copy segment block j) allowance due before due' after

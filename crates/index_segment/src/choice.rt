@@ -2,12 +2,13 @@
 ghost use Rattle.std.specs.Prelude.{◌≤◌, ◌<◌, ◌≡◌, length};
 ghost use Rattle.index_rules.specs.Slots.{choose};
 ghost use Rattle.index_layout.specs.Blocks.{shared};
-ghost use Rattle.index_segment.specs.Bucket.{has, usable, FirstInBucket};
+ghost use Rattle.index_segment.specs.Bucket.{has, usable, FirstInBucket, FirstPassing};
 ghost use Rattle.stores.specs.Options.{option_of};
 ghost use Rattle.index_segment.specs.Answers.{choice_of};
 
 use crate::bucket::{Bucket, bucket_at, window_bucket};
 use crate::live::is_live;
+use crate::slot::slots;
 use index_layout::key::Block;
 use index_layout::{BUCKET_SLOTS, WINDOW_BUCKETS};
 
@@ -20,18 +21,26 @@ pub enum Choice {
     Full,
 }
 
-// The first slot of the bucket that holds the key, or for key 0 the first empty one; the bucket has
-// this number in its segment.
-fn slot_with_key(bucket: Bucket, number: usize, key: u64) -> Option<usize>
-    requires { number < 16 }
-    ensures { FirstInBucket (has key) bucket.words number (option_of result) }
+// The first slot of the bucket whose key passes the test; the bucket has this number in its segment.
+fn first_slot<F: Fn(u64) -> bool>(bucket: Bucket, number: usize, passes: F) -> Option<usize>
+    requires small { number < 16 }
+    requires callable { F.IsAlwaysCallable passes }
+    ensures { FirstPassing (F.post passes) bucket.words number (option_of result) }
 {
-    for j in 0..BUCKET_SLOTS {
-        if bucket.words[2 * j] == key {
+    for (j, [key, _value]) in slots(&bucket.words).iter().enumerate() {
+        if passes(*key) {
             return Some(BUCKET_SLOTS * number + j);
         }
     }
     None
+}
+
+// The first slot of the bucket that holds the key, or for key 0 the first empty one.
+fn slot_with_key(bucket: Bucket, number: usize, key: u64) -> Option<usize>
+    requires { number < 16 }
+    ensures { FirstInBucket (has key) bucket.words number (option_of result) }
+{
+    first_slot(bucket, number, |held| held == key)
 }
 
 // The first slot of the bucket that is usable in the block's segment: empty, or with a stale key.
@@ -39,12 +48,7 @@ fn usable_slot(bucket: Bucket, number: usize, block: Block) -> Option<usize>
     requires { (number < 16) × (block.local_depth ≤ 12) }
     ensures { FirstInBucket (usable block.local_depth (shared block)) bucket.words number (option_of result) }
 {
-    for j in 0..BUCKET_SLOTS {
-        if !is_live(block, bucket.words[2 * j]) {
-            return Some(BUCKET_SLOTS * number + j);
-        }
-    }
-    None
+    first_slot(bucket, number, |held| !is_live(block, held))
 }
 
 // The slot for a put of the key into the block's segment, in one pass over its probe window. A hit in

@@ -5,10 +5,11 @@ ghost use Rattle.index_rules.specs.Split.{copying};
 ghost use Rattle.index_layout.specs.Blocks.{shared};
 ghost use Rattle.index_segment.specs.Slot.{SlotCopied};
 
-use crate::Held;
 use crate::live::moves;
+use crate::slot::slots;
+use cells::Record;
+use index_layout::SEGMENT_WORDS;
 use index_layout::key::Block;
-use index_layout::{SEGMENT_WORDS, SLOTS};
 use stores::store_word;
 
 // One slot of the copy step: a record that moves goes to the same slot of the new segment, value
@@ -17,7 +18,7 @@ use stores::store_word;
 fn copy_slot(
     new_segment: &mut [u64],
     slot: usize,
-    held: Held,
+    held: Record,
     block: Block,
     allowance: u32,
     due: u32,
@@ -49,10 +50,10 @@ pub fn copy_records(
     ensures { Executed (copying old 0 0 block.local_depth (shared block)) allowance due new_segment.old result new_segment.new }
 {
     let mut due = due;
-    for slot in 0..SLOTS {
-        let held = Held {
-            key: old[2 * slot],
-            value: old[2 * slot + 1],
+    for (slot, [key, value]) in slots(&old).iter().enumerate() {
+        let held = Record {
+            key: *key,
+            value: *value,
         };
         due = copy_slot(new_segment, slot, held, block, allowance, due);
     }

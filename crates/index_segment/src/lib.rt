@@ -10,10 +10,4 @@ pub mod listing;
 mod live;
 pub mod merge;
 pub mod probe;
-
-// What a slot holds.
-#[derive(Clone, Copy)]
-pub(crate) struct Held {
-    pub key: u64,
-    pub value: u64,
-}
+mod slot;

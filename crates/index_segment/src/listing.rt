@@ -7,9 +7,9 @@ ghost use Rattle.index_segment.specs.Slot.{SlotHolds};
 ghost use Rattle.stores.specs.Written.{Written};
 ghost use Rattle.index_segment.specs.Listing.{block_records, slot_words, Counted};
 
-use crate::Held;
 use crate::live::is_live;
-use index_layout::SLOTS;
+use crate::slot::slots;
+use cells::Record;
 use index_layout::key::Block;
 
 // The number of live records of the block's segment.
@@ -17,18 +17,15 @@ pub fn count_live(segment: &[u64], block: Block) -> usize
     requires { (length segment.now ≡ 128) × (block.local_depth ≤ 12) }
     ensures { Counted segment.now block.local_depth (shared block) result }
 {
-    let mut count = 0;
-    for slot in 0..SLOTS {
-        if is_live(block, segment[2 * slot]) {
-            count += 1;
-        }
-    }
-    count
+    slots(segment)
+        .iter()
+        .filter(|slot| is_live(block, slot[0]))
+        .count()
 }
 
 // Writes a slot's record to the list, key, then value, if the key is live. Answers the position
 // behind what is written.
-fn write_slot(list: &mut [u64], at: usize, held: Held, block: Block) -> usize
+fn write_slot(list: &mut [u64], at: usize, held: Record, block: Block) -> usize
     requires { (block.local_depth ≤ 12) × (live block.local_depth (shared block) held.key ≡ true → at + 2 ≤ length list.old) }
     ensures { (a : List ℕ) (slot : ℕ) → SlotHolds a slot held → Written (slot_words a block slot) at list.old result list.new }
 {
@@ -48,10 +45,10 @@ pub fn write_live(segment: &[u64], block: Block, list: &mut [u64], at: usize) ->
     ensures { Written (words_of (block_records segment.now block)) at list.old result list.new }
 {
     let mut next = at;
-    for slot in 0..SLOTS {
-        let held = Held {
-            key: segment[2 * slot],
-            value: segment[2 * slot + 1],
+    for [key, value] in slots(segment) {
+        let held = Record {
+            key: *key,
+            value: *value,
         };
         next = write_slot(list, next, held, block);
     }

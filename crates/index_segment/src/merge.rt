@@ -7,8 +7,9 @@ ghost use Rattle.index_layout.specs.Blocks.{shared};
 ghost use Rattle.index_segment.specs.Merge.{both_keys_live, sides_merged};
 
 use crate::live::is_live_in_half;
+use crate::slot::slots;
+use index_layout::SEGMENT_WORDS;
 use index_layout::key::Block;
-use index_layout::{SEGMENT_WORDS, SLOTS};
 use stores::store_word;
 
 // What a slot holds on both sides: the left segment's key, and the right one's key and value.
@@ -32,8 +33,9 @@ pub fn some_both_live(left: &[u64], right: &[u64], joined: Block) -> bool
     requires { (length left.now ≡ 128) × (length right.now ≡ 128) × (joined.local_depth ≤ 12) }
     ensures { result ≡ both_live left.now 0 right.now 0 joined.local_depth (shared joined) }
 {
-    for slot in 0..SLOTS {
-        if both_keys_live(joined, left[2 * slot], right[2 * slot]) {
+    // No `any`: what it says of a `zip` does not close the proof.
+    for (left_slot, right_slot) in slots(left).iter().zip(slots(right)) {
+        if both_keys_live(joined, left_slot[0], right_slot[0]) {
             return true;
         }
     }
@@ -84,11 +86,12 @@ pub fn merge_records(
     ensures { Executed (merging_slots left 0 right 0 joined.local_depth (shared joined)) allowance 0 segment.old result segment.new }
 {
     let mut due = 0;
-    for slot in 0..SLOTS {
+    let left_slots = slots(&left);
+    for (slot, [key, value]) in slots(&right).iter().enumerate() {
         let sides = Sides {
-            left_key: left[2 * slot],
-            key: right[2 * slot],
-            value: right[2 * slot + 1],
+            left_key: left_slots[slot][0],
+            key: *key,
+            value: *value,
         };
         due = merge_slot(segment, slot, sides, joined, allowance, due);
     }

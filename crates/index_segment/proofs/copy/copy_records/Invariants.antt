@@ -1,5 +1,5 @@
 -- `index_segment::copy::copy_records` meets its contract. The invariant: the stores of the slots so far are due.
-use Prim.Native.Nat.{◌+◌, ◌*◌, ◌-◌, ◌≤◌}
+use Prim.Native.Nat.{◌+◌, ◌*◌, ◌≤◌}
 use mathlib.Core.Path.{◌≡◌}
 use lib.ListN.{length}
 use Rattle.stores.specs.Lists.{each}
@@ -9,10 +9,6 @@ use Rattle.index_segment.proofs.copy.copy_records.Given as goal
 
 abbrev pub invariant-loop-slot : goal.invariant-loop-slot
 invariant-loop-slot l =
-    (l.slot ≤ 64)
-    × (length l.new_segment ≡ length l.initial.new_segment)
+    (length l.new_segment ≡ length l.initial.new_segment)
     × (l.due ≤ l.due-2 + 2 * l.slot)
-    × Executed (each (slot_copy l.old l.block) l.slot) l.allowance l.due-2 l.initial.new_segment l.due l.new_segment
-
-abbrev pub decreases-loop-slot : goal.decreases-loop-slot
-decreases-loop-slot l = 64 - l.slot
+    × Executed (each (slot_copy l.fn.old l.block) l.slot) l.allowance l.due-2 l.initial.new_segment l.due l.new_segment
