@@ -13,14 +13,15 @@ use Rattle.index_rules.specs.Layout.{key_at}
 use Rattle.index_rules.specs.Merge.{live_left, live_right, both_live, merge_record, merge_slot}
 use Rattle.index_layout.specs.declared.key.Block.{Block}
 use Rattle.index_layout.specs.Blocks.{shared}
+use Rattle.cells.specs.Cells.{record_stored, key_cleared}
 use Rattle.index_segment.specs.Merge.{both_keys_live}
 use Rattle.index_segment.proofs.Words.{pair, pair_key, pair_value}
 
 module _ (M bits j own key value : ℕ) where
   -- The right segment's record is live.
-  pub merged_moved : live_right M bits key ≡ true → merge_record 0 M bits j own key value ≡ store (2 * j + 1) value ∷ store (2 * j) key ∷ []
+  pub merged_moved : live_right M bits key ≡ true → merge_record 0 M bits j own key value ≡ record_stored 0 j key value
   unfolding merge_record
-  merged_moved t = rw (t, zero-add (2 * j), zero-add (2 * j + 1))
+  merged_moved t = rw t
 
   module _ (t : live_right M bits key ≡ false) where
     -- The slot is empty in the left segment.
@@ -34,9 +35,9 @@ module _ (M bits j own key value : ℕ) where
     merged_own n l = rw (t, ne_eqb own 0 n, l)
 
     -- Its record there is stale.
-    pub merged_cleared : (own ≡ 0 → ⊥) → live_left M bits own ≡ false → merge_record 0 M bits j own key value ≡ store (2 * j) 0 ∷ []
+    pub merged_cleared : (own ≡ 0 → ⊥) → live_left M bits own ≡ false → merge_record 0 M bits j own key value ≡ key_cleared 0 j
     unfolding merge_record
-    merged_cleared n l = rw (t, ne_eqb own 0 n, l, zero-add (2 * j))
+    merged_cleared n l = rw (t, ne_eqb own 0 n, l)
 
 -- The stores for slot j of two segments that are read as values, by their pairs.
 pub slot_merged : (left right : List ℕ) (M bits j : ℕ)

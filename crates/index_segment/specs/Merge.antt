@@ -13,4 +13,4 @@ both_keys_live joined leftKey key =
 
 -- The stores for slot j of a left segment that is lent as a part.
 abbrev pub sides_merged : Block → (j : ℕ) → Sides → List Store
-sides_merged joined j s = merge_record 0 joined.local_depth (shared joined) j s.left_key s.key s.value
+sides_merged joined j s = merge_record 0 joined.local_depth (shared joined) j s.left_key s.right.key s.right.value

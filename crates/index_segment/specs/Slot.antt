@@ -1,6 +1,7 @@
 -- A segment as a part of the array, and a slot of it.
 use Rattle.std.specs.Prelude.{ℕ, ◌≡◌, List, take, drop}
 use Rattle.stores.specs.Store.{Store}
+use Rattle.stores.specs.declared.Budget.{Budget}
 use Rattle.stores.specs.Executed.{Executed}
 use Rattle.index_rules.specs.Layout.{key_at, value_at}
 use Rattle.index_rules.specs.Split.{copy_slot}
@@ -22,6 +23,6 @@ abbrev pub slot_copy : List ℕ → Block → (j : ℕ) → List Store
 slot_copy segment block j = copy_slot segment 0 0 block.local_depth (shared block) j
 
 -- These stores have come due in the new segment, for a slot that holds this in the old one.
-abbrev pub SlotCopied : Record → Block → (j allowance due : ℕ) (before : List ℕ) (due' : ℕ) (after : List ℕ) → Type 0
-SlotCopied held block j allowance due before due' after =
-    (segment : List ℕ) → SlotHolds segment j held → Executed (slot_copy segment block j) allowance due before due' after
+abbrev pub SlotCopied : Record → Block → (j : ℕ) (b : Budget) (before : List ℕ) (b' : Budget) (after : List ℕ) → Type 0
+SlotCopied held block j b before b' after =
+    (segment : List ℕ) → SlotHolds segment j held → Executed (slot_copy segment block j) b before b' after

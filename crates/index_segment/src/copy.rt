@@ -7,55 +7,41 @@ ghost use Rattle.index_segment.specs.Slot.{SlotCopied};
 
 use crate::live::moves;
 use crate::slot::slots;
-use cells::Record;
+use cells::{Record, clear_key, store_record};
 use index_layout::SEGMENT_WORDS;
 use index_layout::key::Block;
-use stores::store_word;
+use stores::Budget;
 
 // One slot of the copy step: a record that moves goes to the same slot of the new segment, value
 // before key, so that a cut between the two shows no record with another's value. In place of any
 // other record the key word is cleared.
-fn copy_slot(
-    new_segment: &mut [u64],
-    slot: usize,
-    held: Record,
-    block: Block,
-    allowance: u32,
-    due: u32,
-) -> u32
-    requires { (length new_segment.old ≡ 128) × (slot < 64) × (block.local_depth ≤ 12) × (due ≤ 2 * due_limit) }
-    ensures { SlotCopied held block slot allowance due new_segment.old result new_segment.new }
+fn copy_slot(new_segment: &mut [u64], slot: usize, held: Record, block: Block, budget: &mut Budget)
+    requires { (length new_segment.old ≡ 128) × (slot < 64) × (block.local_depth ≤ 12) × (budget.old.due ≤ 2 * due_limit) }
+    ensures { SlotCopied held block slot budget.old new_segment.old budget.new new_segment.new }
 {
-    let key = held.key;
-    let value = held.value;
-    let key_at = 2 * slot;
-    let value_at = key_at + 1;
-    if moves(block, key) {
-        let value_due = store_word(new_segment, value_at, value, allowance, due);
-        return store_word(new_segment, key_at, key, allowance, value_due);
+    if moves(block, held.key) {
+        store_record(new_segment, 0, slot, held, budget);
+    } else {
+        clear_key(new_segment, 0, slot, budget);
     }
-    store_word(new_segment, key_at, 0, allowance, due)
 }
 
 // Copies to the new segment the records of the old one, the block's, that a split moves, slots rising
-// (document 01, split, step 3), and answers the number of stores due now.
+// (document 01, split, step 3).
 pub fn copy_records(
     old: [u64; SEGMENT_WORDS],
     new_segment: &mut [u64],
     block: Block,
-    allowance: u32,
-    due: u32,
-) -> u32
-    requires { (length new_segment.old ≡ 128) × (block.local_depth ≤ 12) × (due ≤ due_limit) }
-    ensures { Executed (copying old 0 0 block.local_depth (shared block)) allowance due new_segment.old result new_segment.new }
+    budget: &mut Budget,
+)
+    requires { (length new_segment.old ≡ 128) × (block.local_depth ≤ 12) × (budget.old.due ≤ due_limit) }
+    ensures { Executed (copying old 0 0 block.local_depth (shared block)) budget.old new_segment.old budget.new new_segment.new }
 {
-    let mut due = due;
     for (slot, [key, value]) in slots(&old).iter().enumerate() {
         let held = Record {
             key: *key,
             value: *value,
         };
-        due = copy_slot(new_segment, slot, held, block, allowance, due);
+        copy_slot(new_segment, slot, held, block, budget);
     }
-    due
 }

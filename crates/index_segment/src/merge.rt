@@ -8,16 +8,16 @@ ghost use Rattle.index_segment.specs.Merge.{both_keys_live, sides_merged};
 
 use crate::live::is_live_in_half;
 use crate::slot::slots;
+use cells::{Record, clear_key, store_record};
 use index_layout::SEGMENT_WORDS;
 use index_layout::key::Block;
-use stores::store_word;
+use stores::Budget;
 
-// What a slot holds on both sides: the left segment's key, and the right one's key and value.
+// What a slot holds on both sides: the left segment's key, and the right one's record.
 #[derive(Clone, Copy)]
 pub(crate) struct Sides {
     pub left_key: u64,
-    pub key: u64,
-    pub value: u64,
+    pub right: Record,
 }
 
 // One key is live in the left half and the other in the right half.
@@ -49,51 +49,39 @@ fn merge_slot(
     slot: usize,
     sides: Sides,
     joined: Block,
-    allowance: u32,
-    due: u32,
-) -> u32
-    requires { (length segment.old ≡ 128) × (slot < 64) × (joined.local_depth ≤ 12) × (due ≤ 2 * due_limit) }
-    ensures { Executed (sides_merged joined slot sides) allowance due segment.old result segment.new }
+    budget: &mut Budget,
+)
+    requires { (length segment.old ≡ 128) × (slot < 64) × (joined.local_depth ≤ 12) × (budget.old.due ≤ 2 * due_limit) }
+    ensures { Executed (sides_merged joined slot sides) budget.old segment.old budget.new segment.new }
 {
-    let key = sides.key;
-    let value = sides.value;
-    let left_key = sides.left_key;
-    let key_at = 2 * slot;
-    if is_live_in_half(joined, 1, key) {
-        let value_at = key_at + 1;
-        let value_due = store_word(segment, value_at, value, allowance, due);
-        return store_word(segment, key_at, key, allowance, value_due);
+    if is_live_in_half(joined, 1, sides.right.key) {
+        store_record(segment, 0, slot, sides.right, budget);
+    } else if sides.left_key != 0 && !is_live_in_half(joined, 0, sides.left_key) {
+        clear_key(segment, 0, slot, budget);
     }
-    if left_key == 0 {
-        return due;
-    }
-    if is_live_in_half(joined, 0, left_key) {
-        return due;
-    }
-    store_word(segment, key_at, 0, allowance, due)
 }
 
 // The slots of the left segment, rising, which is lent to be written; `left` and `right` are the words of
-// both segments before the merge. Answers the number of stores due.
+// both segments before the merge.
 pub fn merge_records(
     left: [u64; SEGMENT_WORDS],
     right: [u64; SEGMENT_WORDS],
     segment: &mut [u64],
     joined: Block,
-    allowance: u32,
-) -> u32
-    requires { (length segment.old ≡ 128) × (joined.local_depth ≤ 12) }
-    ensures { Executed (merging_slots left 0 right 0 joined.local_depth (shared joined)) allowance 0 segment.old result segment.new }
+    budget: &mut Budget,
+)
+    requires { (length segment.old ≡ 128) × (joined.local_depth ≤ 12) × (budget.old.due ≤ due_limit) }
+    ensures { Executed (merging_slots left 0 right 0 joined.local_depth (shared joined)) budget.old segment.old budget.new segment.new }
 {
-    let mut due = 0;
     let left_slots = slots(&left);
     for (slot, [key, value]) in slots(&right).iter().enumerate() {
         let sides = Sides {
             left_key: left_slots[slot][0],
-            key: *key,
-            value: *value,
+            right: Record {
+                key: *key,
+                value: *value,
+            },
         };
-        due = merge_slot(segment, slot, sides, joined, allowance, due);
+        merge_slot(segment, slot, sides, joined, budget);
     }
-    due
 }

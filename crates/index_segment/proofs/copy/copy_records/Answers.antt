@@ -15,7 +15,7 @@ use Rattle.index_segment.proofs.Copies.{copy_short}
 use Rattle.index_segment.proofs.copy.copy_records.Goals as goal
 
 pub loop-slot-init : goal.loop-slot-init
-loop-slot-init c = (refl, search rules, rw (each_zero _) (executed_none _ _ _))
+loop-slot-init c = (refl, search rules, rw (each_zero _) (executed_none _ _))
 
 pub loop-slot-preserved : goal.loop-slot-preserved
 loop-slot-preserved c =
@@ -25,14 +25,14 @@ loop-slot-preserved c =
     let bits = shared u.block in
     let here = c.loop-slot in
     let slot = here.slot in
-    let call = c.copy_slot-due in
+    let call = c.copy_slot in
     let k : slot < length old / 2 = omega (arith, c.slots-key-items.ensures.count) in
     let copied = call.ensures old (slot_holds old c.slots-key-items.result.now c.slots-key-items.ensures.pairs slot k) in (
       call.auto.new_segment ∙ here.invariant.0,
       omega (arith, copied.count, copy_short old L bits slot),
       rw (add-one slot, each_suc (copy_slot old 0 0 L bits) slot)
-          (executed_append (each (copy_slot old 0 0 L bits) slot) (copy_slot old 0 0 L bits slot) u.allowance u.due u.new_segment.now
-          here.due here.new_segment call.result call.new.new_segment here.invariant.2 copied),
+          (executed_append (each (copy_slot old 0 0 L bits) slot) (copy_slot old 0 0 L bits slot) u.budget.now u.new_segment.now
+          here.budget here.new_segment call.new.budget call.new.new_segment here.invariant.2 copied),
     )
 
 pub returns : goal.returns

@@ -10,5 +10,5 @@ use Rattle.index_segment.proofs.copy.copy_records.Given as goal
 abbrev pub invariant-loop-slot : goal.invariant-loop-slot
 invariant-loop-slot l =
     (length l.new_segment ≡ length l.initial.new_segment)
-    × (l.due ≤ l.due-2 + 2 * l.slot)
-    × Executed (each (slot_copy l.fn.old l.block) l.slot) l.allowance l.due-2 l.initial.new_segment l.due l.new_segment
+    × (l.budget.due ≤ l.initial.budget.due + 2 * l.slot)
+    × Executed (each (slot_copy l.fn.old l.block) l.slot) l.initial.budget l.initial.new_segment l.budget l.new_segment

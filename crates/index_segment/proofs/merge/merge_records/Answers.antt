@@ -17,7 +17,7 @@ use lib.ListN.{length}
 use Rattle.index_segment.proofs.merge.merge_records.Goals as goal
 
 pub loop-slot-init : goal.loop-slot-init
-loop-slot-init c = (refl, search rules, rw (each_zero _) (executed_none _ _ _))
+loop-slot-init c = (refl, search rules, rw (each_zero _) (executed_none _ _))
 
 pub loop-slot-preserved : goal.loop-slot-preserved
 loop-slot-preserved c =
@@ -26,20 +26,20 @@ loop-slot-preserved c =
     let bits = shared u.joined in
     let here = c.loop-slot in
     let slot = here.slot in
-    let call = c.merge_slot-due in
+    let call = c.merge_slot in
     let k : slot < length u.left / 2 = omega (arith, c.slots-key-items.ensures.count) in
     let k' : slot < length u.right / 2 = omega (arith, c.slots-key-items.ensures.count) in
     let left = slot_pair u.left c.slots-left_slots.result.now c.slots-left_slots.ensures.pairs slot k in
     let right = slot_pair u.right c.slots-key-items.result.now c.slots-key-items.ensures.pairs slot k' in
-    let merged : Executed (merge_slot u.left 0 u.right 0 M bits slot) u.allowance here.due here.segment call.result call.new.segment =
+    let merged : Executed (merge_slot u.left 0 u.right 0 M bits slot) here.budget here.segment call.new.budget call.new.segment =
     rw (← slot_merged u.left u.right M bits slot, ← left, ← right) call.ensures in
     let short : length (merge_slot u.left 0 u.right 0 M bits slot) ≤ 2 =
     rw (← slot_merged u.left u.right M bits slot) (length_record 0 M bits slot _ _ _) in (
       call.auto.segment ∙ here.invariant.0,
       omega (arith, merged.count),
       rw (add-one slot, each_suc (merge_slot u.left 0 u.right 0 M bits) slot)
-          (executed_append (each (merge_slot u.left 0 u.right 0 M bits) slot) (merge_slot u.left 0 u.right 0 M bits slot) u.allowance 0 u.segment.now
-          here.due here.segment call.result call.new.segment here.invariant.2 merged),
+          (executed_append (each (merge_slot u.left 0 u.right 0 M bits) slot) (merge_slot u.left 0 u.right 0 M bits slot) u.budget.now u.segment.now
+          here.budget here.segment call.new.budget call.new.segment here.invariant.2 merged),
     )
 
 pub returns : goal.returns
