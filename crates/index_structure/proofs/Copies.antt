@@ -9,6 +9,7 @@ use lib.ListN.{length, take, drop, take-append-drop}
 use lib.Seq.{length-take-le}
 use Rattle.stores.specs.Lists.{pick, each}
 use Rattle.stores.specs.Store.{Store, store, word, shifted, Every}
+use Rattle.stores.specs.declared.Budget.{Budget}
 use Rattle.stores.specs.Executed.{Executed}
 use Rattle.stores.proofs.Lists.{each_same, every_each, every_pick}
 use Rattle.stores.proofs.Parts.{exec_part, shifted_append, length_shifted}
@@ -19,15 +20,16 @@ use Rattle.index_segment.specs.Slot.{segment_in}
 use Rattle.index_segment.proofs.Parts.{span, part_length, part_key, part_value}
 
 -- Stores that stay within a segment lent as a part are, in the whole array, those stores shifted.
-pub executed_part : (ss : List Store) (base allowance due : ℕ) (a : List ℕ) (due' : ℕ) (b : List ℕ)
-    → base + 128 ≤ length a → Every (λ s. s.at < 128) ss → Executed ss allowance due (segment_in a base) due' b
-    → Executed (shifted base ss) allowance due a due' (take base a ++ (b ++ drop 128 (drop base a)))
-executed_part ss base allowance due a due' b h k p =
+pub executed_part : (ss : List Store) (base : ℕ) (x : Budget) (a : List ℕ) (x' : Budget) (b : List ℕ)
+    → base + 128 ≤ length a → Every (λ s. s.at < 128) ss → Executed ss x (segment_in a base) x' b
+    → Executed (shifted base ss) x a x' (take base a ++ (b ++ drop 128 (drop base a)))
+executed_part ss base x a x' b h k p =
     let front : length (take base a) ≡ base = length-take-le base a (omega arith) in
     let whole : take base a ++ (segment_in a base ++ drop 128 (drop base a)) ≡ a =
     ap (λ (l : List ℕ). take base a ++ l) (take-append-drop 128 (drop base a)) ∙ take-append-drop base a in
-    let made = exec_part (take base a) (segment_in a base) (drop 128 (drop base a)) ss (allowance - due) (rw (part_length a base h) k) in
+    let made = exec_part (take base a) (segment_in a base) (drop 128 (drop base a)) ss (x.allowance - x.due) (rw (part_length a base h) k) in
     record {
+      allowance = p.allowance;
       count = rw (length_shifted base ss) p.count;
       words = rw p.words (sym (rw (front, whole) at made));
     }
@@ -106,9 +108,9 @@ copying_read a from to L bits fits =
     ∙ sym (copies_slot a from to L bits j))
 
 -- The copy step by the code: from words `old`, into the segment at `base`, lent as a part by its start and its end.
-pub copied : (a old : List ℕ) (base L bits allowance due due' : ℕ) (b : List ℕ) → base + 128 ≤ length a
-    → Executed (copying old 0 0 L bits) allowance due (take (base + 128 - base) (drop base a)) due' b
-    → Executed (copying old 0 base L bits) allowance due a due' (take base a ++ (b ++ drop (base + 128 - base) (drop base a)))
-copied a old base L bits allowance due due' b h p =
+pub copied : (a old : List ℕ) (base L bits : ℕ) (x x' : Budget) (b : List ℕ) → base + 128 ≤ length a
+    → Executed (copying old 0 0 L bits) x (take (base + 128 - base) (drop base a)) x' b
+    → Executed (copying old 0 base L bits) x a x' (take base a ++ (b ++ drop (base + 128 - base) (drop base a)))
+copied a old base L bits x x' b h p =
     rw (← copying_shifted old base L bits, span base)
-    (executed_part (copying old 0 0 L bits) base allowance due a due' b h (copying_inside old 0 L bits) (rw (span base) at p))
+    (executed_part (copying old 0 0 L bits) base x a x' b h (copying_inside old 0 L bits) (rw (span base) at p))

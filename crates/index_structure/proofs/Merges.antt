@@ -10,7 +10,8 @@ use lib.ListN.{length, take, drop}
 use Rattle.std.specs.Prelude.{Option, Some, None}
 use Rattle.stores.specs.Lists.{pick}
 use Rattle.stores.specs.Store.{store, shifted, Every}
-use Rattle.stores.specs.Executed.{Executed, due_limit}
+use Rattle.stores.specs.declared.Budget.{Budget}
+use Rattle.stores.specs.Executed.{Executed, begun, due_limit}
 use Rattle.stores.proofs.Tests.{and_left}
 use Rattle.stores.proofs.Lists.{each_same, every_each, any_same}
 use Rattle.stores.proofs.Stores.{executed_append}
@@ -67,12 +68,12 @@ module _ (a : List ℕ) (left right M bits : ℕ) (left_room : left + 128 ≤ le
       (λ j h. record_every (λ at. at < 128) 0 M bits j _ _ _ (omega arith) (omega arith))
 
   -- The slots by the code, in the left segment lent as a part by its start and its end.
-  pub slots_made : {l r : List ℕ} → l ≡ segment_in a left → r ≡ segment_in a right → (allowance due : ℕ) (b : List ℕ)
-      → Executed (merging_slots l 0 r 0 M bits) allowance 0 (take (left + 128 - left) (drop left a)) due b
-      → Executed (merging_slots a left a right M bits) allowance 0 a due (take left a ++ (b ++ drop (left + 128 - left) (drop left a)))
-  slots_made e f allowance due b p =
+  pub slots_made : {l r : List ℕ} → l ≡ segment_in a left → r ≡ segment_in a right → (x x' : Budget) (b : List ℕ)
+      → Executed (merging_slots l 0 r 0 M bits) x (take (left + 128 - left) (drop left a)) x' b
+      → Executed (merging_slots a left a right M bits) x a x' (take left a ++ (b ++ drop (left + 128 - left) (drop left a)))
+  slots_made e f x x' b p =
       rw (← slots_shifted, span left)
-      (executed_part (merging_slots (segment_in a left) 0 (segment_in a right) 0 M bits) left allowance 0 a due b left_room slots_inside
+      (executed_part (merging_slots (segment_in a left) 0 (segment_in a right) 0 M bits) left x a x' b left_room slots_inside
       (rw (e, f, span left) at p))
 
   -- The test of the two segments lent as parts.
@@ -148,9 +149,9 @@ module _ {p : Place} {pair : Pair} {a : List ℕ} (r : PairReady p pair a) where
       rw (r.pair_at.left_is, r.pair_at.start_is, joined_depth_holds, r.place.header_read.depth_read)
 
   -- The slots are made, and the entries can be stored.
-  pub entries_ready : (allowance due : ℕ) (b : List ℕ) → Executed (slots_in a (merging_at p pair)) allowance 0 a due b
-      → Joinable (block_for p pair) b × (due ≤ due_limit)
-  entries_ready allowance due b made =
+  pub entries_ready : (allowance : ℕ) (x : Budget) (b : List ℕ) → Executed (slots_in a (merging_at p pair)) (begun allowance) a x b
+      → Joinable (block_for p pair) b × (x.due ≤ due_limit)
+  entries_ready allowance x b made =
       let g = bounds r.place.header_read in
       let start : pair.start ≡ block_start p.header.depth (p.local_depth - 1) (index p.key p.header.depth) =
       sym r.pair_at.start_is ∙ rw (joined_depth_holds, r.place.header_read.depth_read) refl in (
@@ -171,13 +172,13 @@ module _ {p : Place} {pair : Pair} {a : List ℕ} (r : PairReady p pair a) where
         ),
       )
 
-  pub merge_made : (allowance due : ℕ) (b : List ℕ) (due' : ℕ) (b' : List ℕ) → Executed (slots_in a (merging_at p pair)) allowance 0 a due b
-      → Executed (joining_of (block_for p pair)) allowance due b due' b'
-      → Executed (key_merging a p.key) allowance 0 a due' b'
+  pub merge_made : (x x' : Budget) (b : List ℕ) (x'' : Budget) (b' : List ℕ) → Executed (slots_in a (merging_at p pair)) x a x' b
+      → Executed (joining_of (block_for p pair)) x' b x'' b'
+      → Executed (key_merging a p.key) x a x'' b'
   unfolding merging_of
-  merge_made allowance due b due' b' slots entries =
+  merge_made x x' b x'' b' slots entries =
       rw (slots_are, entries_are)
-      (executed_append (slots_in a (merging_at p pair)) (joining_of (block_for p pair)) allowance 0 a due b due' b' slots entries)
+      (executed_append (slots_in a (merging_at p pair)) (joining_of (block_for p pair)) x a x' b x'' b' slots entries)
 
 -- What the search for the pair has answered.
 pub paired_none : (x : Option Pair) (p : Place) (a : List ℕ) → PairedBy x p a → x ≡ None → PairedBy None p a

@@ -13,7 +13,8 @@ use lib.Pow.{pow_mono}
 use Rattle.std.specs.Prelude.{Ok, Err, Option, Some, None}
 use Rattle.stores.specs.Options.{option_of}
 use Rattle.stores.specs.Store.{word, apply}
-use Rattle.stores.specs.Executed.{Executed, due_limit}
+use Rattle.stores.specs.declared.Budget.{Budget}
+use Rattle.stores.specs.Executed.{Executed, begun, due_limit}
 use Rattle.stores.proofs.Stores.{executed_append}
 use Rattle.stores.proofs.Loops.{executed_length}
 use Rattle.replies.specs.declared.Refusal.TheVariants.{NoSegment}
@@ -60,25 +61,25 @@ halving_at_holds {p} {n} {a} can b g dg dD same words h =
 
 -- The code of steps 3 and 4: `base` is the address of the new segment, `part` its words behind the copy step.
 module _ {h : Halving} {a : List ℕ} (ok : Halvable h a) (base : ℕ) (old : List ℕ)
-    (base_is : base ≡ segment_address h.place.header.max_depth h.new_segment) (allowance due due₁ : ℕ) (part : List ℕ)
-    (copy : Executed (copying old 0 0 h.place.local_depth (shared (block_of h.place))) allowance due (take (base + 128 - base) (drop base a)) due₁ part) where
+    (base_is : base ≡ segment_address h.place.header.max_depth h.new_segment) (x x₁ : Budget) (part : List ℕ)
+    (copy : Executed (copying old 0 0 h.place.local_depth (shared (block_of h.place))) x (take (base + 128 - base) (drop base a)) x₁ part) where
   -- The array behind the copy step.
   abbrev after_copy : List ℕ
   after_copy = take base a ++ (part ++ drop (base + 128 - base) (drop base a))
 
-  copy_made : Executed (copying_at old h) allowance due a due₁ after_copy
+  copy_made : Executed (copying_at old h) x a x₁ after_copy
   copy_made =
       rw (← base_is)
-      (copied a old base h.place.local_depth (shared (block_of h.place)) allowance due due₁ part (rw base_is ok.new_room) copy)
+      (copied a old base h.place.local_depth (shared (block_of h.place)) x x₁ part (rw base_is ok.new_room) copy)
 
-  copy_due : due₁ ≤ due + 128
+  copy_due : x₁.due ≤ x.due + 128
   copy_due =
       let c = copy_made.count in
       omega (arith, length_copying old 0 (segment_address h.place.header.max_depth h.new_segment) h.place.local_depth (shared (block_of h.place)))
 
   -- The entries of the key's block, which begins at `start`, can be updated.
-  pub update_ready : (start : ℕ) → start ≡ start_at h → due + 128 ≤ due_limit
-      → Updatable (halves_at h start) after_copy × (due₁ ≤ due_limit)
+  pub update_ready : (start : ℕ) → start ≡ start_at h → x.due + 128 ≤ due_limit
+      → Updatable (halves_at h start) after_copy × (x₁.due ≤ due_limit)
   unfolding segment_address
   update_ready start e few =
       let D = h.place.header.max_depth in
@@ -97,12 +98,12 @@ module _ {h : Halving} {a : List ℕ} (ok : Halvable h a) (base : ℕ) (old : Li
         omega arith,
       )
 
-  pub halve_done : (start due' : ℕ) (b : List ℕ) → start ≡ start_at h
-      → Executed (updating_of (halves_at h start)) allowance due₁ after_copy due' b
-      → Executed (halving_at old h) allowance due a due' b
-  halve_done start due' b e update =
+  pub halve_done : (start : ℕ) (x' : Budget) (b : List ℕ) → start ≡ start_at h
+      → Executed (updating_of (halves_at h start)) x₁ after_copy x' b
+      → Executed (halving_at old h) x a x' b
+  halve_done start x' b e update =
       rw (← e)
-      (executed_append (copying_at old h) (updating_of (halves_at h start)) allowance due a due₁ after_copy due' b copy_made update)
+      (executed_append (copying_at old h) (updating_of (halves_at h start)) x a x₁ after_copy x' b copy_made update)
 
 -- ---- Steps 2 to 4
 
@@ -126,18 +127,18 @@ module _ {p : Place} {n : ℕ} {a : List ℕ} (can : CanSplit p n a) where
         let l = can.local_room in
         rw (d.depth_read, d.max_depth_read) (omega arith)
 
-    pub doubling_due : (allowance before due : ℕ) (b : List ℕ) → Executed (doubling a) allowance before a due b → due ≤ before + 8193
-    doubling_due allowance before due b q =
+    pub doubling_due : (x x' : Budget) (b : List ℕ) → Executed (doubling a) x a x' b → x'.due ≤ x.due + 8193
+    doubling_due x x' b q =
         let g = (bounds can.place.header_read).entries in
         let l = rw (length_doubling a, can.place.header_read.depth_read) at q.count in
         omega (arith, l)
 
   module _ {old : List ℕ} (old-is : old ≡ segment_in a p.base) where
     -- Where the segment is less deep than the directory, nothing is doubled.
-    pub split_halved : (allowance due : ℕ) (b : List ℕ) → (p.local_depth ≡ p.header.depth → ⊥)
-        → Executed (halving_at old (halving_for p p.header.depth n)) allowance 0 a due b → Executed (splitting a p.key n) allowance 0 a due b
+    pub split_halved : (x x' : Budget) (b : List ℕ) → (p.local_depth ≡ p.header.depth → ⊥)
+        → Executed (halving_at old (halving_for p p.header.depth n)) x a x' b → Executed (splitting a p.key n) x a x' b
     unfolding splitting doubling_for apply
-    split_halved allowance due b ne q =
+    split_halved x x' b ne q =
         let k = can.place in
         let d = k.header_read in
         let t : eqb (local_depth (key_entry a p.key)) (depth a) ≡ false = rw (k.depth_is, d.depth_read) (ne_eqb p.local_depth p.header.depth ne) in
@@ -146,10 +147,11 @@ module _ {p : Place} {n : ℕ} {a : List ℕ} (can : CanSplit p n a) where
         rw (t, e, ← old-is) q
 
     -- Where the segment is as deep as the directory, the directory is doubled first. The doubling stores no word of the segment.
-    pub split_doubled : (deep : p.local_depth ≡ p.header.depth) (allowance due : ℕ) (b : List ℕ) (due' : ℕ) (b' : List ℕ) → Executed (doubling a) allowance 0 a due b
-        → Executed (halving_at old (halving_for p (p.header.depth + 1) n)) allowance due b due' b' → Executed (splitting a p.key n) allowance 0 a due' b'
+    pub split_doubled : (deep : p.local_depth ≡ p.header.depth) (x x' : Budget) (b : List ℕ) (x'' : Budget) (b' : List ℕ)
+        → Executed (doubling a) x a x' b
+        → Executed (halving_at old (halving_for p (p.header.depth + 1) n)) x' b x'' b' → Executed (splitting a p.key n) x a x'' b'
     unfolding splitting doubling_for segment_address
-    split_doubled deep allowance due b due' b' q r =
+    split_doubled deep x x' b x'' b' q r =
         let k = can.place in
         let d = k.header_read in
         let c : List ℕ = apply (doubling a) a in
@@ -166,7 +168,7 @@ module _ {p : Place} {n : ℕ} {a : List ℕ} (can : CanSplit p n a) where
         (λ i l. sym (after.behind _ (omega arith)))
         (omega arith) in
         rw (t, e, ← old-is)
-        (executed_append (doubling a) (halving_at old (halving_for p (p.header.depth + 1) n)) allowance 0 a due b due' b' q r)
+        (executed_append (doubling a) (halving_at old (halving_for p (p.header.depth + 1) n)) x a x' b x'' b' q r)
 
 -- ---- Step 1, and the whole split
 
@@ -193,6 +195,6 @@ module _ {p : Place} {a : List ℕ} (k : KeyPlace p a) (shallow : p.local_depth 
           new_below = rw k.header_read.segments_read at (free_below a n (free_is q)).0;
         }
 
-    pub split_made : {n : ℕ} → f ≡ Some n → {allowance due : ℕ} {b : List ℕ} → Executed (splitting a p.key n) allowance 0 a due b
-        → SplitBy (Ok due) p allowance a b
+    pub split_made : {n : ℕ} → f ≡ Some n → {allowance : ℕ} {x : Budget} {b : List ℕ} → Executed (splitting a p.key n) (begun allowance) a x b
+        → SplitBy (Ok x) p allowance a b
     split_made {n} q m = (n, record { local_room = room; free = free_is q; made = m })

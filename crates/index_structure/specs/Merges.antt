@@ -1,7 +1,8 @@
 -- What a merge of a key's block and its buddy asks of its caller, and answers; and the stores of its slots.
 use Rattle.std.specs.Prelude.{Result, Ok, Err, ℕ, ◌+◌, ◌-◌, ◌≤◌, ◌<◌, ◌≡◌, Bool, true, false, List, length}
 use Rattle.stores.specs.Store.{Store}
-use Rattle.stores.specs.Executed.{Executed}
+use Rattle.stores.specs.declared.Budget.{Budget}
+use Rattle.stores.specs.Executed.{Executed, begun}
 use Rattle.replies.specs.declared.Refusal.{Refusal}
 use Rattle.replies.specs.declared.Refusal.TheVariants.{NoBuddy, BothLive}
 use Rattle.index_rules.specs.Layout.{segments, segment_address}
@@ -59,14 +60,14 @@ abbrev pub HalvesBelow : Place → List ℕ → Type 0
 HalvesBelow p a = key_buddy a p.key ≡ true → (left_of a p.key < segments a) × (right_of a p.key < segments a)
 
 -- The tests of the two halves have passed, and of the stores of the merge those allowed were made: a became b.
-pub record MergedTo (p : Place) (allowance due : ℕ) (a b : List ℕ) : Type 0 where
+pub record MergedTo (p : Place) (allowance : ℕ) (x : Budget) (a b : List ℕ) : Type 0 where
   pub buddy : key_buddy a p.key ≡ true
   pub apart : key_both_live a p.key ≡ false
-  pub made : Executed (key_merging a p.key) allowance 0 a due b
+  pub made : Executed (key_merging a p.key) (begun allowance) a x b
 
--- What a merge answers, and leaves as b: the number of stores due, or what its tests of the two halves refuse, which makes no store.
-abbrev pub MergedBy : Result ℕ Refusal → Place → (allowance : ℕ) → (a b : List ℕ) → Type 0
-MergedBy (Ok due) p allowance a b = MergedTo p allowance due a b
+-- What a merge answers, and leaves as b: the budget behind its stores, or what its tests of the two halves refuse, which makes no store.
+abbrev pub MergedBy : Result Budget Refusal → Place → (allowance : ℕ) → (a b : List ℕ) → Type 0
+MergedBy (Ok x) p allowance a b = MergedTo p allowance x a b
 MergedBy (Err NoBuddy) p allowance a b = (key_buddy a p.key ≡ false) × (b ≡ a)
 MergedBy (Err BothLive) p allowance a b = (key_buddy a p.key ≡ true) × (key_both_live a p.key ≡ true) × (b ≡ a)
 MergedBy (Err _) p allowance a b = ⊥

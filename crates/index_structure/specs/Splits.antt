@@ -2,7 +2,8 @@
 use Rattle.std.specs.Prelude.{Result, Ok, Err, ℕ, ◌+◌, ◌≤◌, ◌<◌, ◌≡◌, List, ◌++◌, length}
 use Rattle.std.proofs.Math.Option.{none, some}
 use Rattle.stores.specs.Store.{Store}
-use Rattle.stores.specs.Executed.{Executed}
+use Rattle.stores.specs.declared.Budget.{Budget}
+use Rattle.stores.specs.Executed.{Executed, begun}
 use Rattle.replies.specs.declared.Refusal.{Refusal}
 use Rattle.replies.specs.declared.Refusal.TheVariants.{TooDeep, NoSegment}
 use Rattle.index_rules.specs.Layout.{segment_address}
@@ -26,14 +27,14 @@ pub record CanSplit (p : Place) (n : ℕ) (a : List ℕ) : Type 0 where
   pub new_below : n < p.header.segments
 
 -- Step 1 has passed with the free segment n, and of the stores of steps 2 to 4 those allowed were made: a became b.
-pub record SplitInto (p : Place) (n allowance due : ℕ) (a b : List ℕ) : Type 0 where
+pub record SplitInto (p : Place) (n allowance : ℕ) (x : Budget) (a b : List ℕ) : Type 0 where
   pub local_room : p.local_depth < p.header.max_depth
   pub free : free_segment a ≡ some n
-  pub made : Executed (splitting a p.key n) allowance 0 a due b
+  pub made : Executed (splitting a p.key n) (begun allowance) a x b
 
--- What a split answers, and leaves as b: the number of stores due, or what step 1 refuses, which makes no store.
-abbrev pub SplitBy : Result ℕ Refusal → Place → (allowance : ℕ) → (a b : List ℕ) → Type 0
-SplitBy (Ok due) p allowance a b = (n : ℕ) × SplitInto p n allowance due a b
+-- What a split answers, and leaves as b: the budget behind its stores, or what step 1 refuses, which makes no store.
+abbrev pub SplitBy : Result Budget Refusal → Place → (allowance : ℕ) → (a b : List ℕ) → Type 0
+SplitBy (Ok x) p allowance a b = (n : ℕ) × SplitInto p n allowance x a b
 SplitBy (Err TooDeep) p allowance a b = (p.local_depth ≡ p.header.max_depth) × (b ≡ a)
 SplitBy (Err NoSegment) p allowance a b = (p.local_depth < p.header.max_depth) × (free_segment a ≡ none) × (b ≡ a)
 SplitBy (Err _) p allowance a b = ⊥

@@ -1,6 +1,6 @@
 // The merge of a key's block and its buddy: document 02, wish 6.
-ghost use Rattle.std.specs.Prelude.{◌≡◌};
-ghost use Rattle.stores.specs.Executed.{Executed};
+ghost use Rattle.std.specs.Prelude.{◌≡◌, ◌≤◌};
+ghost use Rattle.stores.specs.Executed.{Executed, begun, due_limit};
 ghost use Rattle.index_rules.specs.Merge.{key_merging};
 ghost use Rattle.index_layout.specs.Places.{KeyPlace};
 ghost use Rattle.index_structure.specs.Merges.{both_live_in, slots_in, Mergeable, PairFits, merging_at, PairReady, HalvesBelow, MergedBy};
@@ -14,6 +14,7 @@ use index_layout::key::Block;
 use index_layout::place::Place;
 use index_segment::merge::{merge_records, some_both_live};
 use replies::Refusal;
+use stores::Budget;
 
 // The two halves as the slots take them: where their segments stand, document 02's a and b, and the block
 // that they make.
@@ -59,9 +60,9 @@ fn both_live(words: &[u64], merging: Merging) -> bool
 
 // The slots. Both segments are read as values first, so that nothing is read that was written; then the
 // left one is lent to be written.
-fn merge_slots(words: &mut [u64], merging: Merging, allowance: u32) -> u32
-    requires { Mergeable merging words.old }
-    ensures { Executed (slots_in words.old merging) allowance 0 words.old result words.new }
+fn merge_slots(words: &mut [u64], merging: Merging, budget: &mut Budget)
+    requires { Mergeable merging words.old × (budget.old.due ≤ due_limit) }
+    ensures { Executed (slots_in words.old merging) budget.old words.old budget.new words.new }
 {
     let left_base = merging.left_base;
     let right_base = merging.right_base;
@@ -72,30 +73,32 @@ fn merge_slots(words: &mut [u64], merging: Merging, allowance: u32) -> u32
         right,
         &mut words[left_base..left_base + SEGMENT_WORDS],
         merging.joined,
-        allowance,
-    )
+        budget,
+    );
 }
 
 // The stores of a merge of these halves: the slots of the left segment, then the entries of the joined
-// block. Answers the number of stores due.
-fn join_halves(words: &mut [u64], place: Place, pair: Pair, allowance: u32) -> u32
+// block. Answers the budget behind them.
+fn join_halves(words: &mut [u64], place: Place, pair: Pair, allowance: u32) -> Budget
     requires { PairReady place pair words.old }
-    ensures { Executed (key_merging words.old place.key) allowance 0 words.old result words.new }
+    ensures { Executed (key_merging words.old place.key) (begun allowance) words.old result words.new }
 {
     let merging = merging_of(place, pair);
-    let due = merge_slots(words, merging, allowance);
+    let mut budget = Budget::new(allowance);
+    merge_slots(words, merging, &mut budget);
     let block = JoinedBlock {
         depth: place.header.depth,
         local_depth: place.local_depth - 1,
         start: pair.start,
         segment: pair.left,
     };
-    join_entries(words, block, allowance, due)
+    join_entries(words, block, &mut budget);
+    budget
 }
 
 // Merges the key's block and its buddy, if it has one of the same depth and no slot is live on both
-// sides: answers the number of stores due.
-pub fn merge(words: &mut [u64], place: Place, allowance: u32) -> Result<u32, Refusal>
+// sides: answers the budget behind its stores.
+pub fn merge(words: &mut [u64], place: Place, allowance: u32) -> Result<Budget, Refusal>
     requires { KeyPlace place words.old × HalvesBelow place words.old }
     ensures { MergedBy result place allowance words.old words.new }
 {

@@ -1,6 +1,6 @@
 // The split of a key's segment: document 01, split.
 ghost use Rattle.std.specs.Prelude.{◌+◌, ◌≤◌};
-ghost use Rattle.stores.specs.Executed.{Executed, due_limit};
+ghost use Rattle.stores.specs.Executed.{Executed, begun, due_limit};
 ghost use Rattle.index_rules.specs.Split.{splitting};
 ghost use Rattle.index_layout.specs.Places.{KeyPlace};
 ghost use Rattle.index_structure.specs.Splits.{halving_at, Halvable, CanSplit, SplitBy};
@@ -16,6 +16,7 @@ use index_layout::key::{Block, directory_index};
 use index_layout::place::Place;
 use index_segment::copy::copy_records;
 use replies::Refusal;
+use stores::Budget;
 
 // Steps 3 and 4 of a split: the key's place, the directory's depth behind any doubling, and the new
 // segment.
@@ -32,11 +33,10 @@ fn halve(
     words: &mut [u64],
     old: [u64; SEGMENT_WORDS],
     halving: Halving,
-    allowance: u32,
-    due: u32,
-) -> u32
-    requires { Halvable halving words.old × (due + 128 ≤ due_limit) }
-    ensures { Executed (halving_at old halving) allowance due words.old result words.new }
+    budget: &mut Budget,
+)
+    requires { Halvable halving words.old × (budget.old.due + 128 ≤ due_limit) }
+    ensures { Executed (halving_at old halving) budget.old words.old budget.new words.new }
 {
     let place = halving.place;
     let depth = halving.depth;
@@ -45,12 +45,11 @@ fn halve(
     let local_depth = place.local_depth;
     let base = segment_base(place.header.max_depth, new_segment);
     let block = Block { local_depth, bits };
-    let due = copy_records(
+    copy_records(
         old,
         &mut words[base..base + SEGMENT_WORDS],
         block,
-        allowance,
-        due,
+        budget,
     );
     let start = block_start(directory_index(bits, depth), depth, local_depth);
     let halves = Halves {
@@ -60,40 +59,43 @@ fn halve(
         segment: place.segment,
         new_segment,
     };
-    update_entries(words, halves, allowance, due)
+    update_entries(words, halves, budget);
 }
 
-// Steps 2 to 4, into the new segment: answers the number of stores due. A segment as deep as the
+// Steps 2 to 4, into the new segment: answers the budget behind them. A segment as deep as the
 // directory has the directory doubled first. The old segment is read before the first store. Its words
 // in this frame also keep the compiler from putting the split's loops into the recursive put.
-fn split_into(words: &mut [u64], place: Place, new_segment: usize, allowance: u32) -> u32
+fn split_into(words: &mut [u64], place: Place, new_segment: usize, allowance: u32) -> Budget
     requires { CanSplit place new_segment words.old }
-    ensures { Executed (splitting words.old place.key new_segment) allowance 0 words.old result words.new }
+    ensures { Executed (splitting words.old place.key new_segment) (begun allowance) words.old result words.new }
 {
     let header = place.header;
     let depth = header.depth;
     let old = read_segment(words, place.base);
+    let mut budget = Budget::new(allowance);
     if place.local_depth == depth {
-        let due = double(words, header, allowance, 0);
+        double(words, header, &mut budget);
         let halving = Halving {
             place,
             depth: depth + 1,
             new_segment,
         };
-        return halve(words, old, halving, allowance, due);
+        halve(words, old, halving, &mut budget);
+        return budget;
     }
     let halving = Halving {
         place,
         depth,
         new_segment,
     };
-    halve(words, old, halving, allowance, 0)
+    halve(words, old, halving, &mut budget);
+    budget
 }
 
 // Splits the key's segment into itself and the smallest free segment, if the segment is not too deep
-// and one is free: answers the number of stores due. Whether the rest of the directory is consistent does
-// not matter.
-pub fn split(words: &mut [u64], place: Place, allowance: u32) -> Result<u32, Refusal>
+// and one is free: answers the budget behind its stores. Whether the rest of the directory is consistent
+// does not matter.
+pub fn split(words: &mut [u64], place: Place, allowance: u32) -> Result<Budget, Refusal>
     requires { KeyPlace place words.old }
     ensures { SplitBy result place allowance words.old words.new }
 {

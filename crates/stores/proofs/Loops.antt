@@ -1,5 +1,5 @@
 -- Loops that store: how the promise grows turn by turn, and what is read between the stores.
-use mathlib.Core.Path.{◌≡◌}
+use mathlib.Core.Path.{◌≡◌, ap}
 use mathlib.Core.List.{List}
 use Prim.Native.Nat.{ℕ, ◌+◌, ◌-◌}
 use native.Mathlib.Numerals.{add-one}
@@ -7,9 +7,13 @@ use lib.ListN.{length, take}
 use Rattle.stores.specs.Lists.{each}
 use Rattle.stores.specs.Store.{Store, word, exec, Every}
 use Rattle.stores.specs.declared.Budget.{Budget}
-use Rattle.stores.specs.Executed.{Executed}
+use Rattle.stores.specs.Executed.{Executed, begun}
 use Rattle.stores.proofs.Lists.{each_zero, each_suc, every_take}
 use Rattle.stores.proofs.Stores.{length_exec, word_elsewhere, executed_none, executed_append}
+
+-- A budget that has begun has no store due.
+pub begun_due : {b : Budget} {allowance : ℕ} → b ≡ begun allowance → b.due ≡ 0
+begun_due e = ap (λ (b : Budget). b.due) e
 
 -- Before the first turn nothing is stored.
 pub before_loop : (f : ℕ → List Store) (b : Budget) (a : List ℕ) → Executed (each f 0) b a b a

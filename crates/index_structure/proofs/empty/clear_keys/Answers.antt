@@ -14,16 +14,16 @@ abbrev cleared : (base j : ℕ) → List Store
 cleared base j = store (key_address base j) 0 ∷ []
 
 pub loop-slot-init : goal.loop-slot-init
-loop-slot-init c = (omega arith, omega arith, search rules, before_loop (cleared c.args.base) _ _ _)
+loop-slot-init c = (omega arith, omega arith, search rules, before_loop (cleared c.args.base) _ _)
 
 pub loop-slot-preserved : goal.loop-slot-preserved
 loop-slot-preserved c =
     let i = c.loop-slot.invariant in
-    let p = c.store_word-due.ensures in (
+    let p = c.clear_key.ensures in (
       omega arith,
       omega (arith, p.count, i.1),
       executed_length p ∙ i.2,
-      after_turn (cleared c.args.base) _ _ _ _ _ _ _ _ i.3 p,
+      after_turn (cleared c.args.base) _ _ _ _ _ _ _ i.3 p,
     )
 
 pub returns : goal.returns

@@ -16,9 +16,9 @@ cleared base j = store (key_address base j) 0 ∷ []
 abbrev pub invariant-loop-slot : goal.invariant-loop-slot
 invariant-loop-slot l =
     (l.slot ≤ 64)
-    × (l.due ≡ l.due-2 + l.slot)
+    × (l.budget.due ≡ l.initial.budget.due + l.slot)
     × (length l.words ≡ length l.initial.words)
-    × Executed (each (cleared l.base) l.slot) l.allowance l.due-2 l.initial.words l.due l.words
+    × Executed (each (cleared l.base) l.slot) l.initial.budget l.initial.words l.budget l.words
 
 abbrev pub decreases-loop-slot : goal.decreases-loop-slot
 decreases-loop-slot l = 64 - l.slot

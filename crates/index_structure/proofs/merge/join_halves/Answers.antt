@@ -1,24 +1,25 @@
 -- `index_structure::merge::join_halves` meets its contract.
 use native.Mathlib.Omega.{arith}
+use Rattle.stores.proofs.Loops.{begun_due}
 use Rattle.index_structure.proofs.Merges.{pair_fits, mergeable, entries_ready, merge_made}
 use Rattle.index_structure.proofs.merge.join_halves.Goals as goal
 
 pub merging_of-merging-requires : goal.merging_of-merging-requires
 merging_of-merging-requires c = pair_fits c.requires
 
-pub merge_slots-due-requires : goal.merge_slots-due-requires
-merge_slots-due-requires c = rw c.merging_of-merging.ensures (mergeable c.requires)
+pub merge_slots-requires : goal.merge_slots-requires
+merge_slots-requires c = (rw c.merging_of-merging.ensures (mergeable c.requires), omega (arith, begun_due c.new-budget.ensures))
 
 pub join_entries-requires : goal.join_entries-requires
 join_entries-requires c =
-    let made = rw c.merging_of-merging.ensures at c.merge_slots-due.ensures in
+    let made = rw (c.merging_of-merging.ensures, c.new-budget.ensures) at c.merge_slots.ensures in
     entries_ready c.requires _ _ _ made
 
 pub returns : goal.returns
 returns c =
     let made =
-    rw c.merging_of-merging.ensures at
-    c.merge_slots-due.ensures in
+    rw (c.merging_of-merging.ensures, c.new-budget.ensures) at
+    c.merge_slots.ensures in
     merge_made c.requires _ _ _ _ _ made
     c.join_entries.ensures
 
