@@ -8,7 +8,9 @@ use native.Mathlib.Omega.{arith}
 use borrow.Author.Tests.{le-leb, lt-leb}
 use lib.ListN.{length}
 use Rattle.stores.specs.Store.{store, word}
-use Rattle.stores.specs.Executed.{Executed}
+use Rattle.stores.specs.declared.Budget.{Budget}
+use Rattle.stores.specs.Executed.{Executed, begun}
+use Rattle.cells.specs.Cells.{value_at, key_cleared}
 use Rattle.replies.specs.declared.Refusal.{Refusal}
 use Rattle.replies.specs.declared.Refusal.TheVariants.{NoStore, Broken, BadShape, TooShort}
 use Rattle.replies.specs.declared.Answer.{Answer}
@@ -41,12 +43,12 @@ module _ (a : List ℕ) (D S allowance : ℕ) (r : Answer) where
     format_too_short e k =
         answered_refused allowance (format_tests a D S) TooShort _ a r (rw (v, lt-leb (words_for D S) (length a) e)) k.0 k.1
 
-    pub format_done : words_for D S ≤ length a → (due : ℕ) (after : List ℕ) → Executed (format_stores D S) allowance 0 a due after
-        → AfterStores r (done []) allowance due → Answered (outcome_of a (Format D S allowance)) r after
+    pub format_done : words_for D S ≤ length a → (x : Budget) (after : List ℕ) → Executed (format_stores D S) (begun allowance) a x after
+        → AfterStores r (done []) x → Answered (outcome_of a (Format D S allowance)) r after
     unfolding effect step format format_tests unless tested
-    format_done e due after x k =
+    format_done e x after m k =
         rw (v, le-leb (words_for D S) (length a) e)
-        (answered_stores allowance (record { due = format_stores D S; reply = done [] }) a r due after x k)
+        (answered_stores allowance (record { due = format_stores D S; reply = done [] }) a r x after m k)
 
 -- ---- Get
 
@@ -64,11 +66,9 @@ module _ (a : List ℕ) (key : ℕ) where
     unfolding get replied value_at_hit
     get_absent h = rw (x.0, ← x.1, x.2.base_is, ← h)
 
-    pub get_found : (j : ℕ) → some j ≡ hit a p.base p.key → done (word a (p.base + 2 * j + 1) ∷ []) ≡ get a key
+    pub get_found : (j : ℕ) → some j ≡ hit a p.base p.key → done (value_at a p.base j ∷ []) ≡ get a key
     unfolding get replied value_at_hit
-    get_found j h =
-        let at : p.base + 2 * j + 1 ≡ value_address p.base j = omega arith in
-        rw (x.0, ← x.1, x.2.base_is, ← h, at)
+    get_found j h = rw (x.0, ← x.1, x.2.base_is, ← h)
 
 -- ---- Remove, whose tests are those of put
 
@@ -82,13 +82,13 @@ module _ (a : List ℕ) (key allowance : ℕ) (r : Answer) where
     unfolding effect step remove remove_tests put_tests tested cleared_at
     remove_absent h k = rw (x.0, ← x.1, x.2.base_is, h) (answered_only allowance absent a r k.0 k.1)
 
-    pub remove_done : (j : ℕ) → hit a p.base p.key ≡ some j → (due : ℕ) (after : List ℕ)
-        → Executed (store (p.base + 2 * j) 0 ∷ []) allowance 0 a due after → AfterStores r (done []) allowance due
+    pub remove_done : (j : ℕ) → hit a p.base p.key ≡ some j → (y : Budget) (after : List ℕ)
+        → Executed (key_cleared p.base j) (begun allowance) a y after → AfterStores r (done []) y
         → Answered (outcome_of a (Remove key allowance)) r after
     unfolding effect step remove remove_tests put_tests tested cleared_at
-    remove_done j h due after e k =
+    remove_done j h y after e k =
         rw (x.0, ← x.1, x.2.base_is, h)
-        (answered_stores allowance (record { due = store (key_address p.base j) 0 ∷ []; reply = done [] }) a r due after e k)
+        (answered_stores allowance (record { due = store (key_address p.base j) 0 ∷ []; reply = done [] }) a r y after e k)
 
 -- ---- Mend
 
@@ -102,8 +102,8 @@ module _ (a : List ℕ) (allowance : ℕ) (r : Answer) where
     unfolding effect step mend mend_tests unless
     mend_broken e k = answered_refused allowance (mend_tests a) Broken _ a r (rw (v, e)) k.0 k.1
 
-    pub mend_done : leaders_valid a (depth a) (segments a) ≡ true → (due : ℕ) (after : List ℕ)
-        → Executed (mending a) allowance 0 a due after → AfterStores r (done []) allowance due → Answered (outcome_of a (Mend allowance)) r after
+    pub mend_done : leaders_valid a (depth a) (segments a) ≡ true → (x : Budget) (after : List ℕ)
+        → Executed (mending a) (begun allowance) a x after → AfterStores r (done []) x → Answered (outcome_of a (Mend allowance)) r after
     unfolding effect step mend mend_tests unless tested
-    mend_done e due after x k =
-        rw (v, e) (answered_stores allowance (record { due = mending a; reply = done [] }) a r due after x k)
+    mend_done e x after m k =
+        rw (v, e) (answered_stores allowance (record { due = mending a; reply = done [] }) a r x after m k)

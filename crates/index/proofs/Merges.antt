@@ -4,6 +4,7 @@ use mathlib.Core.List.{List, []}
 use mathlib.Core.Option.{none, some}
 use Prim.Native.Nat.{ℕ}
 use Rattle.std.specs.Prelude.{Ok, Err}
+use Rattle.stores.specs.declared.Budget.{Budget}
 use Rattle.replies.specs.declared.Refusal.{Refusal}
 use Rattle.replies.specs.declared.Refusal.TheVariants.{NoBuddy, BothLive}
 use Rattle.replies.specs.declared.Answer.{Answer}
@@ -53,11 +54,11 @@ module _ (a : List ℕ) (key allowance : ℕ) (r : Answer) where
         (answered_refused allowance (merge_tests a key) BothLive _ a r
         (tests_past tests ∙ both_live_holds a (index key (depth a)) (key_entry a key) (rw x.1 at m.0) (rw x.1 at m.1)) k.0 k.1)
 
-    pub merge_done : (due : ℕ) (b : List ℕ) → MergedBy (Ok due) p allowance a b → AfterStores r (done []) allowance due → Answered (outcome_of a (Merge key allowance)) r b
+    pub merge_done : (y : Budget) (b : List ℕ) → MergedBy (Ok y) p allowance a b → AfterStores r (done []) y → Answered (outcome_of a (Merge key allowance)) r b
     unfolding effect step merge tested
-    merge_done due b m k =
+    merge_done y b m k =
         rw (tests_past tests ∙ both_pass a (index key (depth a)) (key_entry a key) (rw x.1 at m.buddy) (rw x.1 at m.apart))
-        (answered_stores allowance (record { due = key_merging a key; reply = done [] }) a r due b (rw x.1 at m.made) k)
+        (answered_stores allowance (record { due = key_merging a key; reply = done [] }) a r y b (rw x.1 at m.made) k)
 
     -- The merge of the halves has refused.
     pub merge_not_made : (q : Refusal) (b : List ℕ) → MergedBy (Err q) p allowance a b → Without r (refuse q) → Answered (outcome_of a (Merge key allowance)) r b

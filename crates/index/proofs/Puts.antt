@@ -1,9 +1,9 @@
--- The stores of a put at a slot, the cases of a put from what the code read, and a put behind a split.
+-- The cases of a put from what the code read, and a put behind a split.
 use mathlib.Core.Path.{◌≡◌, refl, sym, ap, ◌∙◌}
 use mathlib.Core.List.{List, [], ◌∷◌}
 use mathlib.Core.Option.{some}
 use Prim.Native.Nat.{ℕ, suc, ◌+◌, ◌*◌, ◌-◌, ◌≤◌, ◌<◌, min}
-use native.Mathlib.Nat.{min-eq_left, sub-zero, zero-add}
+use native.Mathlib.Nat.{min-eq_left, le_of_lt, sub-zero, zero-add}
 use native.Mathlib.Omega.{arith}
 use borrow.Author.Tests.{le-leb, lt-leb, leb-true}
 use lib.Dec.{leb}
@@ -11,7 +11,8 @@ use Rattle.std.specs.Prelude.{Ok, Err}
 use lib.ListN.{length, length-append}
 use Rattle.stores.specs.Store.{Store, store, exec, apply}
 use Rattle.stores.specs.Plan.{Plan, ◌then◌, cut}
-use Rattle.stores.specs.Executed.{Executed}
+use Rattle.stores.specs.declared.Budget.{Budget}
+use Rattle.stores.specs.Executed.{Executed, begun}
 use Rattle.stores.proofs.Tests.{same_test}
 use Rattle.stores.proofs.Stores.{exec_append, exec_all, exec_not_made}
 use Rattle.stores.proofs.Plans.{made_allowed}
@@ -32,17 +33,10 @@ use Rattle.index_laws.proofs.Range.{hit_slot}
 use Rattle.index_laws.proofs.Put.{put_refused, put_found, put_into, put_too_deep, put_no_segment, put_again, put_splittable, choice_found, choice_into}
 use Rattle.index_layout.specs.declared.place.Place.{Place}
 use Rattle.index_structure.specs.Splits.{SplitBy}
-use Rattle.replies.specs.Answered.{Answered}
+use Rattle.replies.specs.Answered.{Answered, AfterStores}
 use Rattle.index.specs.Slots.{value_put, record_put}
 use Rattle.replies.proofs.Answers.{answered_only}
 use Rattle.index.proofs.Places.{Stands}
-
--- ---- Stores at a slot
-
-module _ (base slot w allowance due : ℕ) (a : List ℕ) (due' : ℕ) (b : List ℕ) where
-  pub value_stored : Executed (store (base + 2 * slot + 1) w ∷ []) allowance due a due' b
-      → Executed (store (value_address base slot) w ∷ []) allowance due a due' b
-  value_stored e = let q : base + 2 * slot + 1 ≡ value_address base slot = omega arith in rw q at e
 
 -- ---- A plan behind stores
 
@@ -80,13 +74,13 @@ module _ (n : ℕ) (ss : List Store) (p : Plan Said) (a : List ℕ) where
 -- ---- What the code has read
 
 -- The window is full, and the split into the free segment `new` was made, as far as allowed: it left b.
-pub record SplitOf (p : Place) (key allowance due : ℕ) (a b : List ℕ) : Type 0 where
+pub record SplitOf (p : Place) (key allowance : ℕ) (x : Budget) (a b : List ℕ) : Type 0 where
   pub new : ℕ
   pub stands : Stands p a key (put_tests a key)
   pub window_full : key_choice a key ≡ full
   pub room : local_depth (key_entry a key) < max_depth a
   pub free : free_segment a ≡ some new
-  pub made : Executed (splitting a key new) allowance 0 a due b
+  pub made : Executed (splitting a key new) (begun allowance) a x b
 
 module _ {p : Place} {a : List ℕ} {key : ℕ} (k : Stands p a key (put_tests a key)) where
   -- What was chosen at the key's place.
@@ -146,7 +140,7 @@ module _ {p : Place} {a : List ℕ} {key : ℕ} (k : Stands p a key (put_tests a
         (answered_only allowance (refuse NoSegment) a r (ap said_by e.0) e.1)
     answers_not_split _ t value r e = absurd t
 
-    pub split_of : {due : ℕ} → SplitBy (Ok due) p allowance a b → SplitOf p key allowance due a b
+    pub split_of : {x : Budget} → SplitBy (Ok x) p allowance a b → SplitOf p key allowance x a b
     split_of t =
         record {
           new = t.0;
@@ -159,22 +153,34 @@ module _ {p : Place} {a : List ℕ} {key : ℕ} (k : Stands p a key (put_tests a
 
 -- ---- A split, and the put behind it
 
-module _ {p : Place} {key allowance due : ℕ} {a b : List ℕ} (m : SplitOf p key allowance due a b) (value : ℕ) where
+module _ {p : Place} {key allowance : ℕ} {x : Budget} {a b : List ℕ} (m : SplitOf p key allowance x a b) (value : ℕ) where
   plan : put a key value ≡ splitting a key m.new then put (apply (splitting a key m.new) a) key value
   plan = put_again a key value m.stands.0 m.window_full m.room m.new m.free
 
-  due_length : due ≡ length (splitting a key m.new)
+  due_length : x.due ≡ length (splitting a key m.new)
   due_length = m.made.count ∙ zero-add (length (splitting a key m.new))
 
-  pub answers_cut : allowance < due → Answered (outcome_of a (Put key value allowance)) (record { reply = Err CutOff; stores = allowance }) b
+  pub answers_cut : x.allowance < x.due → (s : Said) {r : Answer} → AfterStores r s x → Answered (outcome_of a (Put key value allowance)) r b
   unfolding effect step
-  answers_cut l =
-      rw (plan, changed_then_cut allowance (splitting a key m.new) (put (apply (splitting a key m.new) a) key value) a (rw due_length at l))
-      (record { reply = refl; stores = refl; words = m.made.words ∙ rw (sub-zero allowance) })
+  answers_cut l s k =
+      rw (plan, changed_then_cut allowance (splitting a key m.new) (put (apply (splitting a key m.new) a) key value) a
+      (omega (arith, l, due_length, m.made.allowance)))
+      (record {
+        reply = rw (lt-leb x.due x.allowance l) at k.0;
+        stores = k.1 ∙ min-eq_left (le_of_lt l) ∙ m.made.allowance;
+        words = m.made.words ∙ rw (sub-zero allowance);
+      })
 
-  module _ (whole : due ≤ allowance) where
+  -- The call goes on, and n stores were made.
+  module _ (whole : x.due ≤ x.allowance) {n : ℕ} (made_is : n ≡ min x.allowance x.due) where
+    made_length : n ≡ length (splitting a key m.new)
+    made_length = omega (arith, made_is, whole, due_length)
+
+    pub made_below : n ≤ allowance
+    made_below = omega (arith, made_is, m.made.allowance)
+
     split_whole : b ≡ apply (splitting a key m.new) a
-    split_whole = m.made.words ∙ exec_all (splitting a key m.new) (allowance - 0) a (omega (arith, due_length))
+    split_whole = m.made.words ∙ exec_all (splitting a key m.new) (allowance - 0) a (omega (arith, made_length, made_below))
 
     pub put_falls : unused b key < unused a key
     unfolding unused
@@ -185,18 +191,18 @@ module _ {p : Place} {key allowance due : ℕ} {a b : List ℕ} (m : SplitOf p k
         let behind : unused b key ≡ u = rw split_whole (unused_falls a key m.new can u here) in
         omega arith
 
-    module _ {rest : Answer} {after : List ℕ} (again : Answered (outcome_of b (Put key value (allowance - due))) rest after) where
-      pub rest_allowed : rest.stores ≤ allowance - due
+    module _ {rest : Answer} {after : List ℕ} (again : Answered (outcome_of b (Put key value (allowance - n))) rest after) where
+      pub rest_allowed : rest.stores ≤ allowance - n
       unfolding effect step changed
-      rest_allowed = rw again.stores (made_allowed (refuse CutOff) (allowance - due) (put b key value) b)
+      rest_allowed = rw again.stores (made_allowed (refuse CutOff) (allowance - n) (put b key value) b)
 
-      pub answers_again : Answered (outcome_of a (Put key value allowance)) (record { reply = rest.reply; stores = due + rest.stores }) after
+      pub answers_again : Answered (outcome_of a (Put key value allowance)) (record { reply = rest.reply; stores = n + rest.stores }) after
       unfolding effect step
       answers_again =
-          let o = rw (split_whole, due_length) at again in
-          rw (plan, changed_then allowance (splitting a key m.new) (put (apply (splitting a key m.new) a) key value) a (rw due_length at whole))
+          let o = rw (split_whole, made_length) at again in
+          rw (plan, changed_then allowance (splitting a key m.new) (put (apply (splitting a key m.new) a) key value) a (rw made_length at made_below))
           (record {
             reply = o.reply;
-            stores = rw due_length (ap (λ (k : ℕ). length (splitting a key m.new) + k) o.stores);
+            stores = rw made_length (ap (λ (k : ℕ). length (splitting a key m.new) + k) o.stores);
             words = o.words;
           })

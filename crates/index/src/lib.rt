@@ -16,6 +16,7 @@ ghost use Rattle.index_rules.specs.ListBlock.{list_block};
 ghost use Rattle.index_rules.specs.Step.{outcome_of, Performed};
 ghost use Rattle.index.specs.Blocks.{ListedBy};
 
+use cells::{clear_key, value_at};
 use index_directory::mend::mend_entries;
 use index_directory::scan::scan;
 use index_layout::header::{read_header, valid_shape, words_for};
@@ -30,7 +31,7 @@ use listing::{
 use place::{place_to_change, place_to_read};
 use replies::{Answer, Refusal, Reply, after_stores, without_store};
 use slot::{choose_at, find_at, put_record, put_value};
-use stores::store_word;
+use stores::Budget;
 
 // Format: an empty index of largest depth `depth` (document 01: D) with `segments` segments (S).
 pub fn format(words: &mut [u64], depth: u64, segments: u64, allowance: u32) -> Answer
@@ -42,8 +43,8 @@ pub fn format(words: &mut [u64], depth: u64, segments: u64, allowance: u32) -> A
     if words.len() < words_for(depth, segments) {
         return without_store(Err(Refusal::TooShort));
     }
-    let due = store_empty(words, depth as u32, segments as u32, allowance);
-    after_stores(Reply::Done, allowance, due)
+    let budget = store_empty(words, depth as u32, segments as u32, allowance);
+    after_stores(Reply::Done, budget)
 }
 
 // Get: the value of the key, or absent. It reads word 0, the key's entry and the probe window alone.
@@ -58,11 +59,10 @@ fn get_reply(words: &[u64], key: u64) -> Result<Reply, Refusal>
     ensures { said_by result ≡ getOf words.now key }
 {
     let place = place_to_read(words, key)?;
-    let base = place.base;
-    let Some(slot) = find_at(words, base, place.key) else {
+    let Some(slot) = find_at(words, place.base, place.key) else {
         return Ok(Reply::Absent);
     };
-    Ok(Reply::Value(words[base + 2 * slot + 1]))
+    Ok(Reply::Value(value_at(words, place.base, slot)))
 }
 
 // Put: the value at the first hit; else value and key into a usable slot; else a split, and the put
@@ -79,21 +79,19 @@ pub fn put(words: &mut [u64], key: u64, value: u64, allowance: u32) -> Answer
         Choice::Into(slot) => return put_record(words, place, slot, value, allowance),
         Choice::Full => {}
     }
-    let due = match split(words, place, allowance) {
-        Ok(due) => due,
+    let budget = match split(words, place, allowance) {
+        Ok(budget) => budget,
         Err(refused) => return without_store(Err(refused)),
     };
-    if allowance < due {
-        return Answer {
-            reply: Err(Refusal::CutOff),
-            stores: allowance,
-        };
+    if budget.is_cut() {
+        return after_stores(Reply::Done, budget);
     }
-    let left = allowance - due;
-    let rest = put(words, key, value, left);
-    let reply = rest.reply;
-    let stores = due + rest.stores;
-    Answer { reply, stores }
+    let made = budget.made();
+    let rest = put(words, key, value, allowance - made);
+    Answer {
+        reply: rest.reply,
+        stores: made + rest.stores,
+    }
 }
 
 // Remove: the key word at the first hit is cleared; or the key is absent. The hit is found as a put
@@ -108,9 +106,9 @@ pub fn remove(words: &mut [u64], key: u64, allowance: u32) -> Answer
     let Choice::Found(slot) = choose_at(words, place) else {
         return without_store(Ok(Reply::Absent));
     };
-    let base = place.base;
-    let due = store_word(words, base + 2 * slot, 0, allowance, 0);
-    after_stores(Reply::Done, allowance, due)
+    let mut budget = Budget::new(allowance);
+    clear_key(words, place.base, slot, &mut budget);
+    after_stores(Reply::Done, budget)
 }
 
 // Merge: the key's block and its buddy become one block, one depth shallower, with the left segment; the
@@ -123,7 +121,7 @@ pub fn merge(words: &mut [u64], key: u64, allowance: u32) -> Answer
         Err(refusal) => return without_store(Err(refusal)),
     };
     match merge_halves(words, place, allowance) {
-        Ok(due) => after_stores(Reply::Done, allowance, due),
+        Ok(budget) => after_stores(Reply::Done, budget),
         Err(refused) => without_store(Err(refused)),
     }
 }
@@ -142,8 +140,9 @@ pub fn mend(words: &mut [u64], allowance: u32) -> Answer
             return without_store(Err(refusal));
         }
     }
-    let due = mend_entries(words, header, allowance, 0);
-    after_stores(Reply::Done, allowance, due)
+    let mut budget = Budget::new(allowance);
+    mend_entries(words, header, &mut budget);
+    after_stores(Reply::Done, budget)
 }
 
 // List: every live record into the list array, each as key, then value; words behind them stay. The

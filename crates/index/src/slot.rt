@@ -9,13 +9,14 @@ ghost use Rattle.stores.specs.Options.{option_of};
 ghost use Rattle.replies.specs.Answered.{Answered};
 ghost use Rattle.index.specs.Slots.{value_put, record_put};
 
+use cells::{Record, store_record, store_value};
 use index_layout::SEGMENT_WORDS;
 use index_layout::key::Block;
 use index_layout::place::Place;
 use index_segment::choice::{Choice, choose};
 use index_segment::probe::find;
 use replies::{Answer, Reply, after_stores};
-use stores::store_word;
+use stores::Budget;
 
 // The first slot of the key's probe window that holds the key, in the segment at `base`.
 pub(crate) fn find_at(words: &[u64], base: usize, key: u64) -> Option<usize>
@@ -49,9 +50,9 @@ pub(crate) fn put_value(
     requires { (slot < 64) × KeyPlace place words.old }
     ensures { Answered (changed allowance (value_put place value slot) words.old) result words.new }
 {
-    let value_at = place.base + 2 * slot + 1;
-    let due = store_word(words, value_at, value, allowance, 0);
-    after_stores(Reply::Done, allowance, due)
+    let mut budget = Budget::new(allowance);
+    store_value(words, place.base, slot, value, &mut budget);
+    after_stores(Reply::Done, budget)
 }
 
 // Stores value, then key, at a usable slot: a cut between the two shows no record with another's value.
@@ -65,9 +66,11 @@ pub(crate) fn put_record(
     requires { (slot < 64) × KeyPlace place words.old }
     ensures { Answered (changed allowance (record_put place value slot) words.old) result words.new }
 {
-    let key_at = place.base + 2 * slot;
-    let value_at = key_at + 1;
-    let value_due = store_word(words, value_at, value, allowance, 0);
-    let due = store_word(words, key_at, place.key, allowance, value_due);
-    after_stores(Reply::Done, allowance, due)
+    let record = Record {
+        key: place.key,
+        value,
+    };
+    let mut budget = Budget::new(allowance);
+    store_record(words, place.base, slot, record, &mut budget);
+    after_stores(Reply::Done, budget)
 }

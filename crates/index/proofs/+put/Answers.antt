@@ -1,7 +1,8 @@
 -- `index::put` meets its contract. The goals stand in the order of the code: what the tests refuse, the value put where the key is found,
 -- the record put into a free slot, the split, its refusals and the cut in it, and the put behind it.
-use Rattle.std.proofs.Common.{arith}
-use Rattle.index.proofs.Puts.{found_slot, into_slot, answers_found, answers_into, answers_refused, answers_not_split, split_of, answers_cut, put_falls, rest_allowed, answers_again}
+use Rattle.std.proofs.Common.{arith, sym, ◌∙◌}
+use Rattle.std.proofs.lemmas.Bool.{ltb-true, ltb-false}
+use Rattle.index.proofs.Puts.{found_slot, into_slot, answers_found, answers_into, answers_refused, answers_not_split, split_of, answers_cut, made_below, put_falls, rest_allowed, answers_again}
 use Rattle.index.proofs.+put.Goals as goal
 
 pub returns-in-Err : goal.returns-in-Err
@@ -33,23 +34,29 @@ pub returns-in-Err-split : goal.returns-in-Err-split
 returns-in-Err-split t c =
     answers_not_split c.in-Ok.ensures c.in-Full.ensures _ _ _ c.in-Err-split.ensures _ _ c.without_store-in-Err-split.ensures
 
-pub returns-then-allowance-due : goal.returns-then-allowance-due
-returns-then-allowance-due t c =
+pub returns-then-is_cut : goal.returns-then-is_cut
+returns-then-is_cut t c =
     let done = split_of c.in-Ok.ensures c.in-Full.ensures _ _ c.in-Ok-split.ensures in
-    answers_cut done _ (omega (arith, c.if-allowance-due.true))
+    answers_cut done _ (ltb-true _ _ (sym c.is_cut.ensures ∙ c.if-is_cut.true)) _ c.after_stores.ensures
+
+pub overflow_sub-allowance : goal.overflow_sub-allowance
+overflow_sub-allowance t c =
+    let done = split_of c.in-Ok.ensures c.in-Full.ensures _ _ c.in-Ok-split.ensures in
+    made_below done c.args.value (ltb-false _ _ (sym c.is_cut.ensures ∙ c.if-is_cut.false)) c.made-made.ensures
 
 pub put-rest-requires : goal.put-rest-requires
 put-rest-requires t c =
     let done = split_of c.in-Ok.ensures c.in-Full.ensures _ _ c.in-Ok-split.ensures in
-    (rw c.decreases at (put_falls done c.args.value (omega (arith, c.if-allowance-due.false))), tt)
+    (rw c.decreases at (put_falls done c.args.value (ltb-false _ _ (sym c.is_cut.ensures ∙ c.if-is_cut.false)) c.made-made.ensures), tt)
 
-pub overflow_add-stores : goal.overflow_add-stores
-overflow_add-stores t c =
+pub overflow_add-result : goal.overflow_add-result
+overflow_add-result t c =
     let done = split_of c.in-Ok.ensures c.in-Full.ensures _ _ c.in-Ok-split.ensures in
-    let left = c.if-allowance-due.false in
-    omega (arith, left, rest_allowed done c.args.value (omega (arith, left)) c.put-rest.ensures, c.ranges.allowance.fits)
+    let whole = ltb-false _ _ (sym c.is_cut.ensures ∙ c.if-is_cut.false) in
+    let below = made_below done c.args.value whole c.made-made.ensures in
+    omega (arith, below, rest_allowed done c.args.value whole c.made-made.ensures c.put-rest.ensures, c.ranges.allowance.fits)
 
 pub returns : goal.returns
 returns t c =
     let done = split_of c.in-Ok.ensures c.in-Full.ensures _ _ c.in-Ok-split.ensures in
-    answers_again done _ (omega (arith, c.if-allowance-due.false)) c.put-rest.ensures
+    answers_again done _ (ltb-false _ _ (sym c.is_cut.ensures ∙ c.if-is_cut.false)) c.made-made.ensures c.put-rest.ensures

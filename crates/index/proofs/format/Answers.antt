@@ -24,10 +24,10 @@ overflow_cast-depth c = let s = shape _ _ (sym c.valid_shape.ensures ∙ c.if-no
 pub overflow_cast-segments : goal.overflow_cast-segments
 overflow_cast-segments c = let s = shape _ _ (sym c.valid_shape.ensures ∙ c.if-not-valid_shape.false) in omega arith
 
-pub store_empty-due-requires : goal.store_empty-due-requires
-store_empty-due-requires c = (sym c.valid_shape.ensures ∙ c.if-not-valid_shape.false, rw c.words_for.ensures at c.if-words-words_for.false)
+pub store_empty-budget-requires : goal.store_empty-budget-requires
+store_empty-budget-requires c = (sym c.valid_shape.ensures ∙ c.if-not-valid_shape.false, rw c.words_for.ensures at c.if-words-words_for.false)
 
 pub returns : goal.returns
 returns c =
-    format_done _ _ _ _ _ (sym c.valid_shape.ensures ∙ c.if-not-valid_shape.false) (rw c.words_for.ensures at c.if-words-words_for.false) _ _ c.store_empty-due.ensures
+    format_done _ _ _ _ _ (sym c.valid_shape.ensures ∙ c.if-not-valid_shape.false) (rw c.words_for.ensures at c.if-words-words_for.false) _ _ c.store_empty-budget.ensures
     c.after_stores.ensures

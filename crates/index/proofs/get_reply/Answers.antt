@@ -17,20 +17,8 @@ find_at-requires c = (place_bounds c.in_ok-place.ensures.2).whole
 pub returns-in_default : goal.returns-in_default
 returns-in_default c = get_absent _ _ _ c.in_ok-place.ensures c.in_default.ensures
 
-pub overflow_mul-result : goal.overflow_mul-result
-overflow_mul-result c = omega (arith, found_inside c.in_ok-place.ensures.2 c.in-Some.ensures)
-
-pub overflow_add-result : goal.overflow_add-result
-overflow_add-result c = omega (arith, found_inside c.in_ok-place.ensures.2 c.in-Some.ensures)
-
-pub overflow_add-result-2 : goal.overflow_add-result-2
-overflow_add-result-2 c = omega (arith, found_inside c.in_ok-place.ensures.2 c.in-Some.ensures)
-
-pub offset_bounds-words-base : goal.offset_bounds-words-base
-offset_bounds-words-base c = omega (arith, found_inside c.in_ok-place.ensures.2 c.in-Some.ensures)
-
-pub bounds-words-base : goal.bounds-words-base
-bounds-words-base c = omega (arith, found_inside c.in_ok-place.ensures.2 c.in-Some.ensures)
+pub value_at-requires : goal.value_at-requires
+value_at-requires c = omega (arith, found_inside c.in_ok-place.ensures.2 c.in-Some.ensures)
 
 pub returns : goal.returns
-returns c = get_found _ _ _ c.in_ok-place.ensures _ c.in-Some.ensures
+returns c = rw c.value_at.ensures (get_found _ _ _ c.in_ok-place.ensures _ c.in-Some.ensures)

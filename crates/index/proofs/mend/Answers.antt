@@ -4,6 +4,8 @@ use mathlib.Core.Path.{◌≡◌, ap, ◌∙◌}
 use Rattle.std.specs.Prelude.{Result, Err}
 use Rattle.replies.specs.declared.Refusal.{Refusal}
 use Rattle.replies.specs.declared.Refusal.TheVariants.{Broken}
+use native.Mathlib.Omega.{arith}
+use Rattle.stores.proofs.Loops.{begun_due}
 use Rattle.replies.specs.Replies.{refuse, said_by}
 use Rattle.index_layout.proofs.Answers.{header_valid, header_not_valid, header_refused}
 use Rattle.index_directory.proofs.Answers.{verdict_broken, verdict_valid}
@@ -31,15 +33,15 @@ returns-in-Broken c =
 not_this : (x : Result Unit Refusal) (r : Refusal) → x ≡ Err r → (r ≡ Broken → ⊥) → x ≡ Err Broken → ⊥
 not_this x r q n e = n (cc)
 
-pub mend_entries-due-requires : goal.mend_entries-due-requires
-mend_entries-due-requires c =
+pub mend_entries-requires : goal.mend_entries-requires
+mend_entries-requires c =
     let d = header_valid _ _ c.read_header.ensures _ c.in-Ok.is in
     let other : c.scan.result ≡ Err Broken → ⊥ =
     elim c.match-scan.branch [
       | in-Err-scan+in_default-refusal w ↦ not_this _ _ w.in-Err-scan.is w.in_default-refusal.not-Broken
       | in_default w ↦ w.in_default.not-Err _
     ] in
-    ((d, verdict_valid c.args.words.now c.scan.result c.scan.ensures other), search rules)
+    ((d, verdict_valid c.args.words.now c.scan.result c.scan.ensures other), omega (arith, begun_due c.new-budget.ensures))
 
 pub returns : goal.returns
 returns c =
@@ -49,5 +51,5 @@ returns c =
       | in-Err-scan+in_default-refusal w ↦ not_this _ _ w.in-Err-scan.is w.in_default-refusal.not-Broken
       | in_default w ↦ w.in_default.not-Err _
     ] in
-    mend_done _ _ _ d.valid (verdict_valid c.args.words.now c.scan.result c.scan.ensures other) _ _ c.mend_entries-due.ensures
+    mend_done _ _ _ d.valid (verdict_valid c.args.words.now c.scan.result c.scan.ensures other) _ _ (rw c.new-budget.ensures at c.mend_entries.ensures)
     c.after_stores.ensures
