@@ -23,7 +23,7 @@ fn copy_slot(
     allowance: u32,
     due: u32,
 ) -> u32
-    requires { (length new_segment.old ≡ 128) × (slot < 64) × (block.local_depth ≤ 12) × (due ≤ 2 * due_limit) }
+    requires { (length new_segment.old ≡ 128) × (slot < 64) × (due ≤ 2 * due_limit) }
     ensures { SlotCopied held block slot allowance due new_segment.old result new_segment.new }
 {
     let key = held.key;
@@ -46,7 +46,7 @@ pub fn copy_records(
     allowance: u32,
     due: u32,
 ) -> u32
-    requires { (length new_segment.old ≡ 128) × (block.local_depth ≤ 12) × (due ≤ due_limit) }
+    requires { (length new_segment.old ≡ 128) × (due ≤ due_limit) }
     ensures { Executed (copying old 0 0 block.local_depth (shared block)) allowance due new_segment.old result new_segment.new }
 {
     let mut due = due;
