@@ -19,10 +19,9 @@ use Rattle.index_laws.proofs.Scan.{range_depth, range_segment}
 use Rattle.index_layout.specs.declared.header.Header.{Header}
 use Rattle.index_layout.specs.declared.entry.Entry.{Entry}
 use Rattle.index_layout.specs.declared.place.Place.{Place}
-use Rattle.index_layout.specs.Blocks.{shared}
 use Rattle.index_layout.specs.Headers.{Describes}
 use Rattle.index_layout.specs.Entries.{entry_said, entry_of}
-use Rattle.index_layout.specs.Places.{KeyPlace, block_of}
+use Rattle.index_layout.specs.Places.{KeyPlace, shared_at}
 use Rattle.index_layout.proofs.Shapes.{shape, bounds}
 use Rattle.index_layout.proofs.Answers.{Opened, entry_at_holds, entry_broken}
 
@@ -120,5 +119,5 @@ module _ {h : Header} {a : List ℕ} (d : Describes h a) (key i bits : ℕ) (ope
 pub place_index : {p : Place} {a : List ℕ} → KeyPlace p a → (g : ℕ) → first_bits p.bits g ≡ index p.key g
 place_index {p} k g = rw (← k.bits_are) (sym (index_first p.key g))
 
-pub place_shared : {p : Place} {a : List ℕ} → KeyPlace p a → shared (block_of p) ≡ index p.key p.local_depth
+pub place_shared : {p : Place} {a : List ℕ} → KeyPlace p a → shared_at p ≡ index p.key p.local_depth
 place_shared {p} k = place_index k p.local_depth

@@ -24,6 +24,7 @@ pub struct OpenKey {
 pub struct Block {
     pub local_depth: u32,
     pub bits: u64,
+    pub ghost shallow: { local_depth ≤ 12 },
 }
 
 // Opens a key: bucket and directory bits are those of the folded key.

@@ -7,7 +7,7 @@ use mathlib.Core.List.{List, [], ◌∷◌}
 use lib.ListN.{get_or}
 use borrow.Author.Tests.{eq-eqb, ne_eqb}
 use Rattle.stores.specs.Lists.{any_below}
-use Rattle.stores.specs.Store.{store, word}
+use Rattle.stores.specs.Store.{store}
 use Rattle.stores.proofs.Lists.{any_true}
 use Rattle.index_rules.specs.Layout.{key_at}
 use Rattle.index_rules.specs.Merge.{live_left, live_right, both_live, merge_record, merge_slot}

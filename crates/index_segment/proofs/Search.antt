@@ -1,14 +1,16 @@
 -- The search through the buckets of a probe window and the slots of a bucket, turn by turn.
-use Prim.Native.Nat.{ℕ, zero, suc, ◌+◌, ◌*◌, ◌/◌, ◌<◌}
-use lib.ListN.{length, get_or}
+use Prim.Native.Nat.{ℕ, zero, suc, ◌+◌, ◌*◌, ◌/◌, ◌≤◌, ◌<◌}
+use lib.ListN.{length, get_or, drop, length-drop}
+use lib.Seq.{length-take-le}
+use Rattle.std.proofs.lemmas.List.{ext_get_or}
 use Rattle.std.specs.Simd.{first_chunks}
-use Rattle.index_segment.proofs.Words.{pair_at, pair_key, key_word}
-use native.Mathlib.Nat.{add-zero, eq-or-lt_of_le, le_of_suc-le-suc, not-suc-le-zero}
+use Rattle.index_segment.proofs.Words.{chunk, chunk_word, chunk_at, pair_key, key_word}
+use native.Mathlib.Nat.{eq-or-lt_of_le, le_of_suc-le-suc, not-suc-le-zero}
 use native.Mathlib.Numerals.{add-one}
 use native.Mathlib.Omega.{arith}
 use borrow.Author.Tests.{eq-eqb, ne_eqb}
 use mathlib.Core.Path.{◌≡◌, refl, sym, ap, ◌∙◌}
-use mathlib.Core.Bool.{Bool, true, false, not}
+use mathlib.Core.Bool.{Bool, true, false}
 use mathlib.Core.List.{List, [], ◌∷◌, ◌++◌}
 use mathlib.Core.Logic.{⊎_elim}
 use mathlib.Core.Option.{Option, none, some, or_else}
@@ -19,7 +21,7 @@ use Rattle.stores.specs.Store.{word}
 use Rattle.stores.specs.Lists.{each, first_in}
 use Rattle.stores.proofs.Lists.{each_suc, first_append, first_append_some, first_here, first_next}
 use Rattle.index_rules.specs.Layout.{key_at}
-use Rattle.index_rules.specs.Keys.{live, slots_of, window, window_bucket}
+use Rattle.index_rules.specs.Keys.{slots_of, window, window_bucket}
 use Rattle.index_rules.specs.Slots.{hit, is_empty, choose, chosen, found}
 use Rattle.index_laws.proofs.Keys.{slots_each, window_each}
 use Rattle.index_laws.proofs.Slots.{slot_by_live}
@@ -116,13 +118,28 @@ module _ (p : ℕ → Bool) (key : ℕ) where
 
 -- ---- A bucket's words
 
+-- Word i of a bucket.
+bucket_word : (a : List ℕ) (b i : ℕ) → i < 8 → word (bucket_words a b) i ≡ word a (8 * b + i)
+bucket_word a b zero k = ap (word a) (omega arith)
+bucket_word a b (suc zero) k = ap (word a) (omega arith)
+bucket_word a b (suc (suc zero)) k = ap (word a) (omega arith)
+bucket_word a b (suc (suc (suc zero))) k = ap (word a) (omega arith)
+bucket_word a b (suc (suc (suc (suc zero)))) k = ap (word a) (omega arith)
+bucket_word a b (suc (suc (suc (suc (suc zero))))) k = ap (word a) (omega arith)
+bucket_word a b (suc (suc (suc (suc (suc (suc zero)))))) k = ap (word a) (omega arith)
+bucket_word a b (suc (suc (suc (suc (suc (suc (suc zero))))))) k = ap (word a) (omega arith)
+bucket_word a b (suc (suc (suc (suc (suc (suc (suc (suc i)))))))) k = absurd (omega arith)
+
+-- A bucket is the segment's chunk of eight words.
+pub bucket_chunk : (a : List ℕ) (b : ℕ) → 8 * b + 8 ≤ length a → chunk 8 a b ≡ bucket_words a b
+bucket_chunk a b h =
+    let long : length (chunk 8 a b) ≡ 8 = length-take-le 8 (drop (8 * b) a) (rw length-drop (omega arith)) in
+    ext_get_or 0 _ _ long
+    (λ i k. let k' : i < 8 = omega arith in chunk_word 8 a b i k' ∙ sym (bucket_word a b i k'))
+
 -- The key of a bucket's slot j is that of slot 4 * b + j of the segment.
 bucket_key : (a : List ℕ) (b j : ℕ) → j < 4 → word (bucket_words a b) (2 * j) ≡ key_at a 0 (4 * b + j)
-bucket_key a b zero k = ap (word a) (omega arith)
-bucket_key a b (suc zero) k = ap (word a) (omega arith)
-bucket_key a b (suc (suc zero)) k = ap (word a) (omega arith)
-bucket_key a b (suc (suc (suc zero))) k = ap (word a) (omega arith)
-bucket_key a b (suc (suc (suc (suc j)))) k = absurd (omega arith)
+bucket_key a b j k = bucket_word a b (2 * j) (omega arith) ∙ ap (word a) (omega arith)
 
 -- The words of a bucket, two by two: its four slots, and whether the key of one passes a test.
 module _ (words : List ℕ) (slots : List (List ℕ)) (b : ℕ) (a : List ℕ) (e : words ≡ bucket_words a b) (front : slots ≡ first_chunks 2 (length words / 2) words) where
@@ -130,7 +147,7 @@ module _ (words : List ℕ) (slots : List (List ℕ)) (b : ℕ) (a : List ℕ) (
   four_slots = rw (front, e) refl
 
   pub slot_passes : (p : ℕ → Bool) (j : ℕ) → j < 4 → passes p a (4 * b + j) ≡ p (get_or (get_or slots j []) 0 0)
-  slot_passes p j k = rw (front, e, pair_at (bucket_words a b) 4 j k, pair_key (bucket_words a b) j, key_word (bucket_words a b) j, bucket_key a b j k) refl
+  slot_passes p j k = rw (front, e, chunk_at 2 (bucket_words a b) 4 j k, pair_key (bucket_words a b) j, key_word (bucket_words a b) j, bucket_key a b j k) refl
 
 -- Whether it has the key.
 module _ (a words : List ℕ) (b j key : ℕ) (e : words ≡ bucket_words a b) (k : j < 4) where

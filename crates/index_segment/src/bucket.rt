@@ -16,18 +16,8 @@ pub(crate) fn bucket_at(segment: &[u64], number: usize) -> Bucket
     requires { (length segment.now ≡ 128) × (number < 16) }
     ensures { result.words ≡ bucket_words segment.now number }
 {
-    let first = BUCKET_WORDS * number;
     Bucket {
-        words: [
-            segment[first],
-            segment[first + 1],
-            segment[first + 2],
-            segment[first + 3],
-            segment[first + 4],
-            segment[first + 5],
-            segment[first + 6],
-            segment[first + 7],
-        ],
+        words: segment.as_chunks::<BUCKET_WORDS>().0[number],
     }
 }
 

@@ -45,7 +45,7 @@ fn slot_with_key(bucket: Bucket, number: usize, key: u64) -> Option<usize>
 
 // The first slot of the bucket that is usable in the block's segment: empty, or with a stale key.
 fn usable_slot(bucket: Bucket, number: usize, block: Block) -> Option<usize>
-    requires { (number < 16) × (block.local_depth ≤ 12) }
+    requires { number < 16 }
     ensures { FirstInBucket (usable block.local_depth (shared block)) bucket.words number (option_of result) }
 {
     first_slot(bucket, number, |held| !is_live(block, held))
@@ -56,7 +56,7 @@ fn usable_slot(bucket: Bucket, number: usize, block: Block) -> Option<usize>
 // is empty, a usable slot is stale. Whether the keys of a bucket are live is looked at only while no usable
 // slot is known.
 pub fn choose(segment: &[u64], block: Block, key: u64) -> Choice
-    requires { (length segment.now ≡ 128) × (block.local_depth ≤ 12) }
+    requires { length segment.now ≡ 128 }
     ensures { choice_of result ≡ choose segment.now 0 block.local_depth (shared block) key }
 {
     let mut empty = None;

@@ -16,7 +16,7 @@ use stores::Budget;
 // before key, so that a cut between the two shows no record with another's value. In place of any
 // other record the key word is cleared.
 fn copy_slot(new_segment: &mut [u64], slot: usize, held: Record, block: Block, budget: &mut Budget)
-    requires { (length new_segment.old ≡ 128) × (slot < 64) × (block.local_depth ≤ 12) × (budget.old.due ≤ 2 * due_limit) }
+    requires { (length new_segment.old ≡ 128) × (slot < 64) × (budget.old.due ≤ 2 * due_limit) }
     ensures { SlotCopied held block slot budget.old new_segment.old budget.new new_segment.new }
 {
     if moves(block, held.key) {
@@ -34,7 +34,7 @@ pub fn copy_records(
     block: Block,
     budget: &mut Budget,
 )
-    requires { (length new_segment.old ≡ 128) × (block.local_depth ≤ 12) × (budget.old.due ≤ due_limit) }
+    requires { (length new_segment.old ≡ 128) × (budget.old.due ≤ due_limit) }
     ensures { Executed (copying old 0 0 block.local_depth (shared block)) budget.old new_segment.old budget.new new_segment.new }
 {
     for (slot, [key, value]) in slots(&old).iter().enumerate() {

@@ -14,7 +14,7 @@ use index_layout::key::Block;
 
 // The number of live records of the block's segment.
 pub fn count_live(segment: &[u64], block: Block) -> usize
-    requires { (length segment.now ≡ 128) × (block.local_depth ≤ 12) }
+    requires { length segment.now ≡ 128 }
     ensures { Counted segment.now block.local_depth (shared block) result }
 {
     slots(segment)
@@ -26,7 +26,7 @@ pub fn count_live(segment: &[u64], block: Block) -> usize
 // Writes a slot's record to the list, key, then value, if the key is live. Answers the position
 // behind what is written.
 fn write_slot(list: &mut [u64], at: usize, held: Record, block: Block) -> usize
-    requires { (block.local_depth ≤ 12) × (live block.local_depth (shared block) held.key ≡ true → at + 2 ≤ length list.old) }
+    requires { live block.local_depth (shared block) held.key ≡ true → at + 2 ≤ length list.old }
     ensures { (a : List ℕ) (slot : ℕ) → SlotHolds a slot held → Written (slot_words a block slot) at list.old result list.new }
 {
     let key = held.key;
@@ -41,7 +41,7 @@ fn write_slot(list: &mut [u64], at: usize, held: Record, block: Block) -> usize
 // Writes the live records to the list from position `at` on, each as key, then value, slots rising.
 // Answers the position behind them.
 pub fn write_live(segment: &[u64], block: Block, list: &mut [u64], at: usize) -> usize
-    requires { (length segment.now ≡ 128) × (block.local_depth ≤ 12) × (at + 2 * length (block_records segment.now block) ≤ length list.old) }
+    requires { (length segment.now ≡ 128) × (at + 2 * length (block_records segment.now block) ≤ length list.old) }
     ensures { Written (words_of (block_records segment.now block)) at list.old result list.new }
 {
     let mut next = at;

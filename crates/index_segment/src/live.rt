@@ -10,7 +10,7 @@ use index_layout::key::{Block, open_key};
 // The key with these directory bits is live in the block's segment: the first of them are the block's. The
 // compiler takes the mask out of the loops that call this.
 fn is_live_by(block: Block, key: u64, bits: u64) -> bool
-    requires { (block.local_depth ≤ 12) × (bits ≡ directory_bits key) }
+    requires { bits ≡ directory_bits key }
     ensures { result ≡ live block.local_depth (shared block) key }
 {
     let mask = (1u64 << block.local_depth) - 1;
@@ -19,7 +19,6 @@ fn is_live_by(block: Block, key: u64, bits: u64) -> bool
 
 // The key is live in the block's segment.
 pub(crate) fn is_live(block: Block, key: u64) -> bool
-    requires { block.local_depth ≤ 12 }
     ensures { result ≡ live block.local_depth (shared block) key }
 {
     let opened = open_key(key);
@@ -29,7 +28,7 @@ pub(crate) fn is_live(block: Block, key: u64) -> bool
 // The key is live in one half of the block, by its next directory bit, whose number is the local depth:
 // `half` is 0 for the left half and 1 for the right one. The key is opened once for all its bits.
 pub(crate) fn is_live_in_half(block: Block, half: u64, key: u64) -> bool
-    requires { (block.local_depth ≤ 12) × (half < 2) }
+    requires { half < 2 }
     ensures { result ≡ live (suc block.local_depth) (2 * shared block + half) key }
 {
     let opened = open_key(key);
@@ -38,7 +37,6 @@ pub(crate) fn is_live_in_half(block: Block, half: u64, key: u64) -> bool
 
 // A split of the block's segment moves a record with the key: it is live in the right half.
 pub(crate) fn moves(block: Block, key: u64) -> bool
-    requires { block.local_depth ≤ 12 }
     ensures { (a : List ℕ) (j : ℕ) → key_at a 0 j ≡ key → result ≡ moves a 0 block.local_depth (shared block) j }
 {
     is_live_in_half(block, 1, key)

@@ -22,7 +22,6 @@ pub(crate) struct Sides {
 
 // One key is live in the left half and the other in the right half.
 fn both_keys_live(joined: Block, left_key: u64, key: u64) -> bool
-    requires { joined.local_depth ≤ 12 }
     ensures { result ≡ both_keys_live joined left_key key }
 {
     is_live_in_half(joined, 0, left_key) && is_live_in_half(joined, 1, key)
@@ -30,7 +29,7 @@ fn both_keys_live(joined: Block, left_key: u64, key: u64) -> bool
 
 // Some slot is live on both sides: what merge refuses with 15.
 pub fn some_both_live(left: &[u64], right: &[u64], joined: Block) -> bool
-    requires { (length left.now ≡ 128) × (length right.now ≡ 128) × (joined.local_depth ≤ 12) }
+    requires { (length left.now ≡ 128) × (length right.now ≡ 128) }
     ensures { result ≡ both_live left.now 0 right.now 0 joined.local_depth (shared joined) }
 {
     // No `any`: what it says of a `zip` does not close the proof.
@@ -51,7 +50,7 @@ fn merge_slot(
     joined: Block,
     budget: &mut Budget,
 )
-    requires { (length segment.old ≡ 128) × (slot < 64) × (joined.local_depth ≤ 12) × (budget.old.due ≤ 2 * due_limit) }
+    requires { (length segment.old ≡ 128) × (slot < 64) × (budget.old.due ≤ 2 * due_limit) }
     ensures { Executed (sides_merged joined slot sides) budget.old segment.old budget.new segment.new }
 {
     if is_live_in_half(joined, 1, sides.right.key) {
@@ -70,7 +69,7 @@ pub fn merge_records(
     joined: Block,
     budget: &mut Budget,
 )
-    requires { (length segment.old ≡ 128) × (joined.local_depth ≤ 12) × (budget.old.due ≤ due_limit) }
+    requires { (length segment.old ≡ 128) × (budget.old.due ≤ due_limit) }
     ensures { Executed (merging_slots left 0 right 0 joined.local_depth (shared joined)) budget.old segment.old budget.new segment.new }
 {
     let left_slots = slots(&left);

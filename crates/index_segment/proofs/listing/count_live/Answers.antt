@@ -14,5 +14,5 @@ returns c =
     let L = u.block.local_depth in
     let bits = shared u.block in
     let counted : c.count.result ≡ count_by (pair_lives a L bits) c.slots.result.now = search rules in
-    let exact = rw (c.slots.ensures.pairs, c.requires.0, count_pairs a L bits 64) at counted in
+    let exact = rw (c.slots.ensures.pairs, c.requires, count_pairs a L bits 64) at counted in
     record { exact = exact; small = omega (arith, exact, count_small a L bits 64) }

@@ -24,12 +24,10 @@ write_slot-next-requires c =
     let here = c.loop-key in
     let slot = here.key-index in
     let k : slot < length a / 2 = omega (arith, c.slots-key-items.ensures.count) in
-    let holds = slot_holds a c.slots-key-items.result.now c.slots-key-items.ensures.pairs slot k in
-    let so_far : here.next ≡ u.at + length (words_of (records_below a L bits slot)) = here.invariant.1.behind in (
-      search rules,
-      λ t.
-          omega (arith, count_room a L bits slot 64 (omega arith) (rw holds.key_there t), length_words (records_below a L bits slot)),
-    )
+    let there = slot_holds a c.slots-key-items.result.now c.slots-key-items.ensures.pairs slot k in
+    let so_far : here.next ≡ u.at + length (words_of (records_below a L bits slot)) = here.invariant.1.behind in
+    λ t.
+    omega (arith, count_room a L bits slot 64 (omega arith) (rw there.key_there t), length_words (records_below a L bits slot))
 
 pub loop-key-preserved : goal.loop-key-preserved
 loop-key-preserved c =

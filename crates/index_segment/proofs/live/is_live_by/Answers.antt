@@ -19,19 +19,18 @@ masked L n h = rw (shifted_one L h) (and_mask n L)
 pub overflow_sub-mask : goal.overflow_sub-mask
 overflow_sub-mask c =
     let L = c.args.block.local_depth in
-    omega (arith, shifted_one L c.requires.0, pow_pos L)
+    omega (arith, shifted_one L c.args.block.shallow, pow_pos L)
 
 pub returns-then-key-ne0 : goal.returns-then-key-ne0
 returns-then-key-ne0 c =
     let a = c.args in
-    let pre = c.requires in
     let L = a.block.local_depth in
     rw (
-      masked L a.bits pre.0,
-      masked L a.block.bits pre.0,
+      masked L a.bits a.block.shallow,
+      masked L a.block.bits a.block.shallow,
       live_bits L a.block.bits a.key,
       ne_eqb a.key 0 c.if-key-ne0.true,
-      pre.1,
+      c.requires,
     )
 
 pub returns-else-key-ne0 : goal.returns-else-key-ne0

@@ -7,7 +7,7 @@ use Rattle.index_layout.specs.Blocks.{shared}
 use Rattle.index_segment.proofs.live.is_live_in_half.Goals as goal
 
 pub is_live_by-requires : goal.is_live_by-requires
-is_live_by-requires c = (c.requires.0, c.open_key-opened.ensures.1)
+is_live_by-requires c = c.open_key-opened.ensures.1
 
 pub returns-then-is_live_by : goal.returns-then-is_live_by
 returns-then-is_live_by c =
@@ -15,7 +15,7 @@ returns-then-is_live_by c =
     let L = a.block.local_depth in
     let lives : live L (shared a.block) a.key ≡ true = sym c.is_live_by.ensures ∙ c.if-is_live_by.true in
     rw (
-      live_split L (shared a.block) a.half a.key c.requires.1,
+      live_split L (shared a.block) a.half a.key c.requires,
       lives,
       bit_shift a.key L,
       ← c.open_key-opened.ensures.1,
@@ -26,4 +26,4 @@ returns-else-is_live_by c =
     let a = c.args in
     let L = a.block.local_depth in
     let stale : live L (shared a.block) a.key ≡ false = sym c.is_live_by.ensures ∙ c.if-is_live_by.false in
-    rw (live_split L (shared a.block) a.half a.key c.requires.1, stale) c.if-is_live_by.false
+    rw (live_split L (shared a.block) a.half a.key c.requires, stale) c.if-is_live_by.false
