@@ -38,6 +38,7 @@ use Rattle.index_layout.specs.declared.header.Header.{Header}
 use Rattle.index_layout.specs.Headers.{Describes}
 use Rattle.index_layout.proofs.Shapes.{bounds}
 use Rattle.index_layout.proofs.Entries.{entry_word, mask_width}
+use Rattle.index_directory.specs.Scans.{LeadersRead}
 use Rattle.index.specs.declared.listing.BlockPlace.{BlockPlace}
 use Rattle.index.specs.Blocks.{ListableRead, BlockRead, FoundAt, PlaceInside, place_records, ListedBy}
 use Rattle.index_layout.proofs.Places.{segment_fits}
@@ -177,6 +178,10 @@ turn {h} {a} d v count c i lead b r =
 pub loop_leads : {h : Header} {a : List ℕ} → Describes h a → (count : ℕ) → count ≡ 2 ^ h.depth → (i : ℕ) → i < count
     → leader a (depth a) i ≡ i → leads a i ≡ true
 loop_leads {h} {a} d count c i k own = leader_at a i (rw d.depth_read (omega arith)) own
+
+-- A step through the blocks of an array b, which is a, has read the block x at index i.
+pub step_turn : {h : Header} {a b : List ℕ} → LeadersRead h a → b ≡ a → (i : ℕ) (x : BlockPlace) → leads b i ≡ true → BlockRead b i x → Turn a (2 ^ h.depth) i x
+step_turn d e i x lead r = turn d.0 d.1 _ refl i (rw e at lead) x (rw e at r)
 
 -- The records of the block behind those before it, counted and written.
 module _ {a : List ℕ} {count i : ℕ} {b : BlockPlace} (t : Turn a count i b) where

@@ -2,6 +2,7 @@
 // block. Every array, also the empty one, and every argument gets an answer; none has a requirement.
 #![tactic(auto)]
 
+mod blocks;
 mod listing;
 mod place;
 mod slot;

@@ -7,6 +7,7 @@ ghost use Rattle.stores.specs.Options.{option_of};
 ghost use Rattle.stores.specs.Written.{Written};
 ghost use Rattle.index.specs.Blocks.{ListableRead, ListableBy, BlockRead, FoundAt, PlaceInside, place_records};
 
+use crate::blocks::Blocks;
 use index_directory::scan::scan;
 use index_layout::SEGMENT_WORDS;
 use index_layout::entry::{block_width, local_depth_of, segment_of};
@@ -97,19 +98,14 @@ pub(crate) fn write_block(words: &[u64], place: BlockPlace, list: &mut [u64], at
     write_live(&words[base..base + SEGMENT_WORDS], place.block, list, at)
 }
 
-// The number of live records of an index whose leaders are valid. It goes from each leader to the
-// index behind its block.
+// The number of live records of an index whose leaders are valid.
 pub(crate) fn count_records(words: &[u64], header: Header) -> usize
     requires { LeadersRead header words.now }
     ensures { (result ≡ length (records words.now)) × (result ≤ 262144) }
 {
-    let count = pow2(header.depth);
     let mut total = 0;
-    let mut i = 0;
-    while i < count {
-        let place = read_block(words, header, i);
+    for place in Blocks::new(words, header) {
         total += count_block(words, place);
-        i = place.next;
     }
     total
 }
@@ -120,13 +116,9 @@ pub(crate) fn write_records(words: &[u64], header: Header, list: &mut [u64]) -> 
     requires { LeadersRead header words.now × (2 * length (records words.now) ≤ length list.old) }
     ensures { Written (words_of (records words.now)) 0 list.old result list.new }
 {
-    let count = pow2(header.depth);
     let mut at = 0;
-    let mut i = 0;
-    while i < count {
-        let place = read_block(words, header, i);
+    for place in Blocks::new(words, header) {
         at = write_block(words, place, list, at);
-        i = place.next;
     }
     at
 }
