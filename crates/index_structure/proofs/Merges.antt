@@ -32,7 +32,8 @@ use Rattle.index_directory.specs.declared.join.JoinedBlock.{JoinedBlock}
 use Rattle.index_directory.specs.Buddies.{PairAt, PairedBy, Joinable, joining_of}
 use Rattle.index_segment.specs.Slot.{segment_in}
 use Rattle.index_segment.proofs.Parts.{span, part_key, part_value}
-use Rattle.index_structure.specs.Merges.{Mergeable, both_live_in, slots_in, PairFits, merging_at, PairReady, HalvesBelow}
+use Rattle.index_structure.specs.declared.merge.Merging.{Merging}
+use Rattle.index_structure.specs.Merges.{Mergeable, both_live_in, slots_in, PairFits, MergingAt, PairReady, HalvesBelow}
 use Rattle.index_structure.proofs.Copies.{executed_part, shifted_each}
 
 -- ---- The slots, in a part
@@ -115,17 +116,17 @@ module _ {p : Place} {pair : Pair} {a : List ℕ} (r : PairReady p pair a) where
       let b = bounds r.place.header_read in
       record {
         deep = deep;
+        low = omega (arith, (place_bounds r.place).local_low, b.present);
         depth_high = b.max_depth_high;
         left_below = omega (arith, r.left_below, b.segments_high);
         right_below = omega (arith, r.right_below, b.segments_high);
       }
 
-  pub mergeable : Mergeable (merging_at p pair) a
-  mergeable =
+  pub mergeable : {m : Merging} → MergingAt p pair m → Mergeable m a
+  mergeable k =
       record {
-        left_room = segment_fits r.place.header_read pair.left r.left_below;
-        right_room = segment_fits r.place.header_read pair.right r.right_below;
-        shallow = omega (arith, (place_bounds r.place).local_small);
+        left_room = rw k.left_is (segment_fits r.place.header_read pair.left r.left_below);
+        right_room = rw k.right_is (segment_fits r.place.header_read pair.right r.right_below);
       }
 
   -- The joined block by the code's numbers.
@@ -138,20 +139,22 @@ module _ {p : Place} {pair : Pair} {a : List ℕ} (r : PairReady p pair a) where
       index_shift p.key (depth a) (p.local_depth - 1) (rw r.place.header_read.depth_read (omega (arith, joined_low)))
       ∙ sym (place_index r.place (p.local_depth - 1))
 
-  slots_are : slots_merged a (index p.key (depth a)) (key_entry a p.key) ≡ slots_in a (merging_at p pair)
-  slots_are = rw (r.pair_at.left_is, r.pair_at.right_is, joined_depth_holds, joined_bits_holds, r.place.header_read.max_depth_read)
+  slots_are : {m : Merging} → MergingAt p pair m → slots_merged a (index p.key (depth a)) (key_entry a p.key) ≡ slots_in a m
+  slots_are k =
+      rw (r.pair_at.left_is, r.pair_at.right_is, joined_depth_holds, joined_bits_holds, r.place.header_read.max_depth_read, k.left_is, k.right_is, k.depth_is, k.bits_are)
 
-  pub both_are : key_both_live a p.key ≡ both_live_in a (merging_at p pair)
-  both_are = rw (r.pair_at.left_is, r.pair_at.right_is, joined_depth_holds, joined_bits_holds, r.place.header_read.max_depth_read)
+  pub both_are : {m : Merging} → MergingAt p pair m → key_both_live a p.key ≡ both_live_in a m
+  both_are k =
+      rw (r.pair_at.left_is, r.pair_at.right_is, joined_depth_holds, joined_bits_holds, r.place.header_read.max_depth_read, k.left_is, k.right_is, k.depth_is, k.bits_are)
 
   entries_are : entries_joined a (index p.key (depth a)) (key_entry a p.key) ≡ joining_of (block_for p pair)
   entries_are =
       rw (r.pair_at.left_is, r.pair_at.start_is, joined_depth_holds, r.place.header_read.depth_read)
 
   -- The slots are made, and the entries can be stored.
-  pub entries_ready : (allowance : ℕ) (x : Budget) (b : List ℕ) → Executed (slots_in a (merging_at p pair)) (begun allowance) a x b
+  pub entries_ready : {m : Merging} → MergingAt p pair m → (allowance : ℕ) (x : Budget) (b : List ℕ) → Executed (slots_in a m) (begun allowance) a x b
       → Joinable (block_for p pair) b × (x.due ≤ due_limit)
-  entries_ready allowance x b made =
+  entries_ready {m} k allowance x b made =
       let g = bounds r.place.header_read in
       let start : pair.start ≡ block_start p.header.depth (p.local_depth - 1) (index p.key p.header.depth) =
       sym r.pair_at.start_is ∙ rw (joined_depth_holds, r.place.header_read.depth_read) refl in (
@@ -168,17 +171,17 @@ module _ {p : Place} {pair : Pair} {a : List ℕ} (r : PairReady p pair a) where
         omega (
           arith,
           made.count,
-          length_slots a (merging_at p pair).left_base a (merging_at p pair).right_base (p.local_depth - 1) (shared (merging_at p pair).joined),
+          length_slots a m.left_base a m.right_base m.joined.local_depth (shared m.joined),
         ),
       )
 
-  pub merge_made : (x x' : Budget) (b : List ℕ) (x'' : Budget) (b' : List ℕ) → Executed (slots_in a (merging_at p pair)) x a x' b
+  pub merge_made : {m : Merging} → MergingAt p pair m → (x x' : Budget) (b : List ℕ) (x'' : Budget) (b' : List ℕ) → Executed (slots_in a m) x a x' b
       → Executed (joining_of (block_for p pair)) x' b x'' b'
       → Executed (key_merging a p.key) x a x'' b'
   unfolding merging_of
-  merge_made x x' b x'' b' slots entries =
-      rw (slots_are, entries_are)
-      (executed_append (slots_in a (merging_at p pair)) (joining_of (block_for p pair)) x a x' b x'' b' slots entries)
+  merge_made {m} k x x' b x'' b' slots entries =
+      rw (slots_are k, entries_are)
+      (executed_append (slots_in a m) (joining_of (block_for p pair)) x a x' b x'' b' slots entries)
 
 -- What the search for the pair has answered.
 pub paired_none : (x : Option Pair) (p : Place) (a : List ℕ) → PairedBy x p a → x ≡ None → PairedBy None p a

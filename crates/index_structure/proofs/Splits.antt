@@ -31,7 +31,7 @@ use Rattle.index_laws.proofs.Put.{free_below}
 use Rattle.index_laws.proofs.Bound.{length_doubling, length_copying}
 use Rattle.index_layout.specs.declared.place.Place.{Place}
 use Rattle.index_layout.specs.Blocks.{shared}
-use Rattle.index_layout.specs.Places.{KeyPlace, block_of}
+use Rattle.index_layout.specs.Places.{KeyPlace, shared_at}
 use Rattle.index_layout.proofs.Shapes.{bounds}
 use Rattle.index_layout.proofs.Places.{segment_fits, place_bounds, place_index}
 use Rattle.index_directory.specs.Updates.{Updatable, updating_of}
@@ -62,7 +62,7 @@ halving_at_holds {p} {n} {a} can b g dg dD same words h =
 -- The code of steps 3 and 4: `base` is the address of the new segment, `part` its words behind the copy step.
 module _ {h : Halving} {a : List ℕ} (ok : Halvable h a) (base : ℕ) (old : List ℕ)
     (base_is : base ≡ segment_address h.place.header.max_depth h.new_segment) (x x₁ : Budget) (part : List ℕ)
-    (copy : Executed (copying old 0 0 h.place.local_depth (shared (block_of h.place))) x (take (base + 128 - base) (drop base a)) x₁ part) where
+    (copy : Executed (copying old 0 0 h.place.local_depth (shared_at h.place)) x (take (base + 128 - base) (drop base a)) x₁ part) where
   -- The array behind the copy step.
   abbrev after_copy : List ℕ
   after_copy = take base a ++ (part ++ drop (base + 128 - base) (drop base a))
@@ -70,12 +70,12 @@ module _ {h : Halving} {a : List ℕ} (ok : Halvable h a) (base : ℕ) (old : Li
   copy_made : Executed (copying_at old h) x a x₁ after_copy
   copy_made =
       rw (← base_is)
-      (copied a old base h.place.local_depth (shared (block_of h.place)) x x₁ part (rw base_is ok.new_room) copy)
+      (copied a old base h.place.local_depth (shared_at h.place) x x₁ part (rw base_is ok.new_room) copy)
 
   copy_due : x₁.due ≤ x.due + 128
   copy_due =
       let c = copy_made.count in
-      omega (arith, length_copying old 0 (segment_address h.place.header.max_depth h.new_segment) h.place.local_depth (shared (block_of h.place)))
+      omega (arith, length_copying old 0 (segment_address h.place.header.max_depth h.new_segment) h.place.local_depth (shared_at h.place))
 
   -- The entries of the key's block, which begins at `start`, can be updated.
   pub update_ready : (start : ℕ) → start ≡ start_at h → x.due + 128 ≤ due_limit

@@ -20,7 +20,6 @@ use Rattle.index_structure.specs.declared.merge.Merging.{Merging}
 pub record Mergeable (m : Merging) (a : List ℕ) : Type 0 where
   pub left_room : m.left_base + 128 ≤ length a
   pub right_room : m.right_base + 128 ≤ length a
-  pub shallow : m.joined.local_depth ≤ 12
 
 -- Some slot is live in both.
 abbrev pub both_live_in : List ℕ → Merging → Bool
@@ -32,21 +31,20 @@ slots_in a m = merging_slots a m.left_base a m.right_base m.joined.local_depth (
 
 -- ---- The whole merge
 
--- The key's block does not fill the directory, and the pair's segments have numbers of an index.
+-- The key's block does not fill the directory and has a depth of an index, and the pair's segments have numbers of one.
 pub record PairFits (p : Place) (pair : Pair) : Type 0 where
   pub deep : p.local_depth ≡ 0 → ⊥
+  pub low : p.local_depth ≤ p.header.max_depth
   pub depth_high : p.header.max_depth ≤ 12
   pub left_below : pair.left < 4096
   pub right_below : pair.right < 4096
 
--- The halves of the pair, for the key's place.
-abbrev pub merging_at : Place → Pair → Merging
-merging_at p pair =
-    record {
-      left_base = segment_address p.header.max_depth pair.left;
-      right_base = segment_address p.header.max_depth pair.right;
-      joined = record { local_depth = p.local_depth - 1; bits = p.bits };
-    }
+-- These are the halves of the pair, for the key's place.
+pub record MergingAt (p : Place) (pair : Pair) (m : Merging) : Type 0 where
+  pub left_is : m.left_base ≡ segment_address p.header.max_depth pair.left
+  pub right_is : m.right_base ≡ segment_address p.header.max_depth pair.right
+  pub depth_is : m.joined.local_depth ≡ p.local_depth - 1
+  pub bits_are : m.joined.bits ≡ p.bits
 
 -- The pair is that of the key, whose place is known, and its segments are below S.
 pub record PairReady (p : Place) (pair : Pair) (a : List ℕ) : Type 0 where

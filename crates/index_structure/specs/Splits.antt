@@ -11,8 +11,7 @@ use Rattle.index_rules.specs.Keys.{first_bits, block_start}
 use Rattle.index_rules.specs.Slots.{free_segment}
 use Rattle.index_rules.specs.Split.{copying, splitting}
 use Rattle.index_layout.specs.declared.place.Place.{Place}
-use Rattle.index_layout.specs.Blocks.{shared}
-use Rattle.index_layout.specs.Places.{KeyPlace, block_of}
+use Rattle.index_layout.specs.Places.{KeyPlace, shared_at}
 use Rattle.index_directory.specs.declared.update.Halves.{Halves}
 use Rattle.index_directory.specs.Updates.{updating_of}
 use Rattle.index_structure.specs.declared.split.Halving.{Halving}
@@ -54,7 +53,7 @@ pub record Halvable (h : Halving) (a : List ℕ) : Type 0 where
 -- The copy step, from the old segment's words.
 abbrev pub copying_at : (old : List ℕ) → Halving → List Store
 copying_at old h =
-    copying old 0 (segment_address h.place.header.max_depth h.new_segment) h.place.local_depth (shared (block_of h.place))
+    copying old 0 (segment_address h.place.header.max_depth h.new_segment) h.place.local_depth (shared_at h.place)
 
 -- The block as the entry update takes it, by its first index; and that index.
 abbrev pub halves_at : Halving → (start : ℕ) → Halves

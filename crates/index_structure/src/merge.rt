@@ -3,7 +3,7 @@ ghost use Rattle.std.specs.Prelude.{◌≡◌, ◌≤◌};
 ghost use Rattle.stores.specs.Executed.{Executed, begun, due_limit};
 ghost use Rattle.index_rules.specs.Merge.{key_merging};
 ghost use Rattle.index_layout.specs.Places.{KeyPlace};
-ghost use Rattle.index_structure.specs.Merges.{both_live_in, slots_in, Mergeable, PairFits, merging_at, PairReady, HalvesBelow, MergedBy};
+ghost use Rattle.index_structure.specs.Merges.{both_live_in, slots_in, Mergeable, PairFits, MergingAt, PairReady, HalvesBelow, MergedBy};
 
 use crate::read::read_segment;
 use index_directory::buddy::{Pair, find_pair};
@@ -28,7 +28,7 @@ pub struct Merging {
 // The halves of the pair, for the key's place.
 fn merging_of(place: Place, pair: Pair) -> Merging
     requires { PairFits place pair }
-    ensures { result ≡ merging_at place pair }
+    ensures { MergingAt place pair result }
 {
     let max_depth = place.header.max_depth;
     let left_base = segment_base(max_depth, pair.left);

@@ -8,19 +8,15 @@ pub merging_of-merging-requires : goal.merging_of-merging-requires
 merging_of-merging-requires c = pair_fits c.requires
 
 pub merge_slots-requires : goal.merge_slots-requires
-merge_slots-requires c = (rw c.merging_of-merging.ensures (mergeable c.requires), omega (arith, begun_due c.new-budget.ensures))
+merge_slots-requires c = (mergeable c.requires c.merging_of-merging.ensures, omega (arith, begun_due c.new-budget.ensures))
 
 pub join_entries-requires : goal.join_entries-requires
 join_entries-requires c =
-    let made = rw (c.merging_of-merging.ensures, c.new-budget.ensures) at c.merge_slots.ensures in
-    entries_ready c.requires _ _ _ made
+    entries_ready c.requires c.merging_of-merging.ensures _ _ _ (rw c.new-budget.ensures at c.merge_slots.ensures)
 
 pub returns : goal.returns
 returns c =
-    let made =
-    rw (c.merging_of-merging.ensures, c.new-budget.ensures) at
-    c.merge_slots.ensures in
-    merge_made c.requires _ _ _ _ _ made
+    merge_made c.requires c.merging_of-merging.ensures _ _ _ _ _ (rw c.new-budget.ensures at c.merge_slots.ensures)
     c.join_entries.ensures
 
 pub overflow_sub-block : goal.overflow_sub-block

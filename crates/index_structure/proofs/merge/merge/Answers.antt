@@ -12,15 +12,13 @@ merging_of-requires c =
 pub both_live-requires : goal.both_live-requires
 both_live-requires c =
     let pre = c.requires in
-    rw c.merging_of.ensures
-    (mergeable (pair_ready pre.0 pre.1 c.find_pair.ensures (found _ _ c.in_ok-pair.ensures.value)))
+    mergeable (pair_ready pre.0 pre.1 c.find_pair.ensures (found _ _ c.in_ok-pair.ensures.value)) c.merging_of.ensures
 
 pub returns-then-both_live : goal.returns-then-both_live
 returns-then-both_live c =
     let pre = c.requires in
     let r = pair_ready pre.0 pre.1 c.find_pair.ensures (found _ _ c.in_ok-pair.ensures.value) in
-    let both = rw c.merging_of.ensures at c.both_live.ensures in
-    (r.pair_at.buddy, both_are r ∙ sym both ∙ c.if-both_live.true, refl)
+    (r.pair_at.buddy, both_are r c.merging_of.ensures ∙ sym c.both_live.ensures ∙ c.if-both_live.true, refl)
 
 pub join_halves-requires : goal.join_halves-requires
 join_halves-requires c =
@@ -31,9 +29,8 @@ pub returns : goal.returns
 returns c =
     let pre = c.requires in
     let r = pair_ready pre.0 pre.1 c.find_pair.ensures (found _ _ c.in_ok-pair.ensures.value) in
-    let both = rw c.merging_of.ensures at c.both_live.ensures in
     record {
       buddy = r.pair_at.buddy;
-      apart = both_are r ∙ sym both ∙ c.if-both_live.false;
+      apart = both_are r c.merging_of.ensures ∙ sym c.both_live.ensures ∙ c.if-both_live.false;
       made = c.join_halves.ensures;
     }

@@ -2,8 +2,8 @@
 use native.Mathlib.Omega.{arith}
 use Rattle.index_structure.proofs.merge.merging_of.Goals as goal
 
-pub returns : goal.returns
-returns c = rw (c.segment_base-left_base.ensures, c.segment_base-right_base.ensures)
-
 pub overflow_sub-joined : goal.overflow_sub-joined
 overflow_sub-joined c = omega (arith, c.requires.deep)
+
+pub invariant_of-joined : goal.invariant_of-joined
+invariant_of-joined c = record { shallow = omega (arith, c.requires.low, c.requires.depth_high) }
