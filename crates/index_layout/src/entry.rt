@@ -60,6 +60,7 @@ pub fn open_entry(entry: u64, depth: u32, segments: u32) -> Result<Entry, Refusa
 }
 
 // Reads entry `i` of the present directory.
+#[tactic(auto, using(crate::proofs::Shapes::bounds))]
 pub fn read_entry(words: &[u64], header: Header, i: usize) -> Result<Entry, Refusal>
     requires { Describes header words.now × (i < 2 ^ header.depth) }
     ensures { entry_said result ≡ entry_read words.now i }

@@ -60,6 +60,7 @@ pub fn valid_shape(max_depth: u64, segments: u64) -> bool
 }
 
 // The number of words that D and S take.
+#[tactic(auto, using(crate::proofs::Shapes::shape))]
 pub fn words_for(max_depth: u64, segments: u64) -> usize
     requires { valid_shape max_depth segments ≡ true }
     ensures { result ≡ words_for max_depth segments }

@@ -16,15 +16,3 @@ overflow_add-result c =
 pub returns : goal.returns
 unfolding words_for
 returns c = rw (c.pow2.ensures, add-one)
-
-pub overflow_cast-max_depth : goal.overflow_cast-max_depth
-overflow_cast-max_depth c = let s = shape _ _ c.requires in omega arith
-
-pub overflow_add-max_depth : goal.overflow_add-max_depth
-overflow_add-max_depth c = let s = shape _ _ c.requires in omega arith
-
-pub pow2-requires : goal.pow2-requires
-pow2-requires c = let s = shape _ _ c.requires in omega arith
-
-pub overflow_mul-result : goal.overflow_mul-result
-overflow_mul-result c = let s = shape _ _ c.requires in omega arith

@@ -1,10 +1,10 @@
 -- `index_layout::key::block_bits` meets its contract.
 use mathlib.Core.Path.{◌≡◌, sym, ◌∙◌}
-use Prim.Native.Nat.{ℕ, suc, ◌+◌, ◌*◌, ◌/◌, ◌%◌, ◌^◌, ◌≤◌, ◌<◌}
+use Prim.Native.Nat.{ℕ, suc, ◌+◌, ◌*◌, ◌/◌, ◌%◌, ◌^◌, ◌<◌}
 use native.Mathlib.Nat.{mod-eq_of_lt, mod-one, div-one}
 use native.Mathlib.Numerals.{add-one, one-add}
 use native.Mathlib.Omega.{arith}
-use lib.Pow.{pow_mono, shr-shr, mod-pow-add}
+use lib.Pow.{shr-shr, mod-pow-add}
 use Rattle.index_laws.proofs.Keys.{first_zero, first_in_front, block_bits_shift, block_bits_lt}
 use Rattle.index_layout.proofs.key.block_bits.Goals as goal
 
@@ -15,12 +15,6 @@ one_more_holds b t = sym (rw one-add at (mod-pow-add b 1 t))
 pub loop-init : goal.loop-init
 loop-init c =
     (sym (block_bits_shift _ _ _) ∙ sym (div-one _), first_zero _ ∙ sym (mod-one _), omega arith, omega arith)
-
-pub overflow_mul-reversed : goal.overflow_mul-reversed
-overflow_mul-reversed c = let p : 2 ^ c.loop.counter ≤ 4096 = pow_mono {j = 12} (omega arith) in omega arith
-
-pub overflow_add-reversed : goal.overflow_add-reversed
-overflow_add-reversed c = let p : 2 ^ c.loop.counter ≤ 4096 = pow_mono {j = 12} (omega arith) in omega arith
 
 pub loop-preserved : goal.loop-preserved
 loop-preserved c =

@@ -46,8 +46,3 @@ loop-key-preserved c =
           here.list call.result call.new.list (search rules) here.invariant.1
           (call.ensures a slot holds)),
     )
-
-pub returns : goal.returns
-returns c =
-    let all : c.loop-key.key-index ≡ 64 = omega (arith, c.slots-key-items.ensures.count) in
-    rw all at c.loop-key.invariant.1

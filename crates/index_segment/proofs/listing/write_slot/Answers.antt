@@ -1,13 +1,8 @@
 -- `index_segment::listing::write_slot` meets its contract.
-use native.Mathlib.Omega.{arith}
 use mathlib.Core.Path.{sym, ◌∙◌}
-use lib.ListN.{length-set}
 use Rattle.index_layout.specs.Blocks.{shared}
 use Rattle.index_segment.proofs.Records.{written_live, written_stale}
 use Rattle.index_segment.proofs.listing.write_slot.Goals as goal
-
-pub bounds-list-at-then-is_live : goal.bounds-list-at-then-is_live
-bounds-list-at-then-is_live c = simp length-set (omega (arith, c.requires (sym c.is_live.ensures ∙ c.if-is_live.true)))
 
 pub returns-then-is_live : goal.returns-then-is_live
 returns-then-is_live c =
@@ -22,18 +17,3 @@ returns c =
     let L = u.block.local_depth in
     let stale = sym c.is_live.ensures ∙ c.if-is_live.false in
     λ a slot h. written_stale a L (shared u.block) slot u.held h u.at u.list.now stale
-
-pub offset_bounds-list-at : goal.offset_bounds-list-at
-offset_bounds-list-at c = omega (arith, c.requires (sym c.is_live.ensures ∙ c.if-is_live.true))
-
-pub bounds-list-at : goal.bounds-list-at
-bounds-list-at c = omega (arith, c.requires (sym c.is_live.ensures ∙ c.if-is_live.true))
-
-pub overflow_add-list : goal.overflow_add-list
-overflow_add-list c = omega (arith, c.requires (sym c.is_live.ensures ∙ c.if-is_live.true))
-
-pub offset_bounds-list-at-then-is_live : goal.offset_bounds-list-at-then-is_live
-offset_bounds-list-at-then-is_live c = omega (arith, c.requires (sym c.is_live.ensures ∙ c.if-is_live.true))
-
-pub overflow_add-result : goal.overflow_add-result
-overflow_add-result c = omega (arith, c.requires (sym c.is_live.ensures ∙ c.if-is_live.true))

@@ -6,7 +6,7 @@ use native.Mathlib.Nat.{one-mul}
 use native.Mathlib.Omega.{arith}
 use mathlib.Core.Path.{◌≡◌, ◌∙◌}
 use lib.Bits.{bit_and, and_mask}
-use lib.Pow.{pow_pos, shl_exact}
+use lib.Pow.{shl_exact}
 use Rattle.index_laws.proofs.Keys.{live_bits}
 use Rattle.index_segment.proofs.live.is_live_by.Goals as goal
 
@@ -15,11 +15,6 @@ shifted_one L h = shl_exact {a = 1} 1 L 64 (search rules) (omega arith) ∙ one-
 
 masked : (L n : ℕ) → L ≤ 12 → bit_and n (1 * 2 ^ L % 18446744073709551616 - 1) ≡ n % 2 ^ L
 masked L n h = rw (shifted_one L h) (and_mask n L)
-
-pub overflow_sub-mask : goal.overflow_sub-mask
-overflow_sub-mask c =
-    let L = c.args.block.local_depth in
-    omega (arith, shifted_one L c.args.block.shallow, pow_pos L)
 
 pub returns-then-key-ne0 : goal.returns-then-key-ne0
 returns-then-key-ne0 c =

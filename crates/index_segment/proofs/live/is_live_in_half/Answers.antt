@@ -6,9 +6,6 @@ use Rattle.index_laws.proofs.Keys.{bit_shift, live_split}
 use Rattle.index_layout.specs.Blocks.{shared}
 use Rattle.index_segment.proofs.live.is_live_in_half.Goals as goal
 
-pub is_live_by-requires : goal.is_live_by-requires
-is_live_by-requires c = c.open_key-opened.ensures.1
-
 pub returns-then-is_live_by : goal.returns-then-is_live_by
 returns-then-is_live_by c =
     let a = c.args in
