@@ -22,11 +22,6 @@ returns-then-both_live c =
     let both = rw c.merging_of.ensures at c.both_live.ensures in
     (r.pair_at.buddy, both_are r ∙ sym both ∙ c.if-both_live.true, refl)
 
-pub join_halves-requires : goal.join_halves-requires
-join_halves-requires c =
-    let pre = c.requires in
-    pair_ready pre.0 pre.1 c.find_pair.ensures (found _ _ c.in_ok-pair.ensures.value)
-
 pub returns : goal.returns
 returns c =
     let pre = c.requires in
