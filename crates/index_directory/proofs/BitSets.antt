@@ -54,9 +54,6 @@ module _ (a : List ℕ) where
   abbrev pub FullBelow : ℕ → Type 0
   FullBelow i = (n : ℕ) → n < 64 * i → holds a n ≡ true
 
-  pub full_none : FullBelow 0
-  full_none n h = absurd (omega arith)
-
   -- Where the first t bits of word i are 1, so many numbers more are in the set.
   module _ (i t : ℕ) (b : FullBelow i) (m : t ≤ 64) (ones : (k : ℕ) → k < t → bit (word a i) k ≡ 1) where
     held : (n : ℕ) → n < 64 * i + t → holds a n ≡ true

@@ -6,7 +6,7 @@ use mathlib.Core.Option.{none, some}
 use Prim.Native.Nat.{ℕ, ◌+◌, ◌^◌, ◌≤◌, ◌<◌}
 use native.Mathlib.Numerals.{add-one}
 use native.Mathlib.Omega.{arith}
-use borrow.Author.Tests.{lt-ltb, le-ltb, ltb-true, ltb-false, eqb-true, ne_eqb}
+use borrow.Author.Tests.{lt-ltb, le-ltb, ltb-true, ltb-false}
 use lib.Dec.{eqb, ltb}
 use Rattle.std.specs.Bool.{then_some}
 use Rattle.stores.specs.Lists.{any_below}
@@ -15,7 +15,7 @@ use Rattle.stores.proofs.Numbers.{first_same_below, first_nowhere, first_at}
 use Rattle.stores.proofs.Tests.{by_test}
 use Rattle.index_rules.specs.Layout.{depth, segments, entry_at, segment_of}
 use Rattle.index_rules.specs.Slots.{named, free_segment}
-use Rattle.index_directory.specs.BitSets.{holds, Empty, Inserted, SmallestMissing}
+use Rattle.index_directory.specs.BitSets.{holds, Empty, SmallestMissing}
 use Rattle.index_directory.specs.Frees.{free_in, NotedEntry, HoldsNamed}
 
 -- ---- The pass
@@ -38,24 +38,6 @@ one_more_holds true true false = refl
 one_more_holds true false true = refl
 one_more_holds true false false = refl
 one_more_holds false x y = refl
-
--- One entry, which names n: below S, or not.
-module _ (e S n : ℕ) (Named-by : n ≡ segment_of e) where
-  pub noted_below : (before after : List ℕ) → n < S → Inserted n before after → NotedEntry e S before after
-  noted_below before after h i s =
-      let same : eqb n s ≡ (ltb s S && eqb (segment_of e) s) =
-      by_test (eqb n s)
-      (λ t. let l : s < S = rw (← eqb-true n s t) h in rw (← Named-by, t, lt-ltb s S l))
-      (λ t. rw (← Named-by, t) (sym (and_none (ltb s S)))) in
-      i s ∙ ap (λ (t : Bool). t || holds before s) same
-
-  pub noted_not : (before : List ℕ) → S ≤ n → NotedEntry e S before before
-  noted_not before h s =
-      by_test (ltb s S)
-      (λ t.
-      let l : s < S = ltb-true s S t in
-      rw (t, ← Named-by, ne_eqb n s (λ q. omega arith)))
-      (λ t. rw t)
 
 module _ (a : List ℕ) where
   pub noted_none : (noted : List ℕ) → Empty noted → NotedBelow a noted 0

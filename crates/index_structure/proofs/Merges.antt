@@ -7,7 +7,7 @@ use native.Mathlib.Omega.{arith}
 use borrow.Author.Tests.{eqb-false, not-true}
 use lib.Dec.{eqb}
 use lib.ListN.{length, take, drop}
-use Rattle.std.specs.Prelude.{Option, Some, None}
+use Rattle.std.specs.Prelude.{Option, Some}
 use Rattle.stores.specs.Lists.{pick}
 use Rattle.stores.specs.Store.{store, shifted, Every}
 use Rattle.stores.specs.declared.Budget.{Budget}
@@ -184,9 +184,6 @@ module _ {p : Place} {pair : Pair} {a : List ℕ} (r : PairReady p pair a) where
       (executed_append (slots_in a m) (joining_of (block_for p pair)) x a x' b x'' b' slots entries)
 
 -- What the search for the pair has answered.
-pub paired_none : (x : Option Pair) (p : Place) (a : List ℕ) → PairedBy x p a → x ≡ None → PairedBy None p a
-paired_none x p a f q = rw q at f
-
 paired_some : (x : Option Pair) (pair : Pair) (p : Place) (a : List ℕ) → PairedBy x p a → x ≡ Some pair → PairAt pair p a
 paired_some x pair p a f q = rw q at f
 

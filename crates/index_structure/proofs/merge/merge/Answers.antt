@@ -20,11 +20,6 @@ returns-then-both_live c =
     let r = pair_ready pre.0 pre.1 c.find_pair.ensures (found _ _ c.in_ok-pair.ensures.value) in
     (r.pair_at.buddy, both_are r c.merging_of.ensures ∙ sym c.both_live.ensures ∙ c.if-both_live.true, refl)
 
-pub join_halves-requires : goal.join_halves-requires
-join_halves-requires c =
-    let pre = c.requires in
-    pair_ready pre.0 pre.1 c.find_pair.ensures (found _ _ c.in_ok-pair.ensures.value)
-
 pub returns : goal.returns
 returns c =
     let pre = c.requires in

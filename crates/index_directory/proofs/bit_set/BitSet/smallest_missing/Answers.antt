@@ -4,11 +4,8 @@ use mathlib.Core.Path.{◌≡◌}
 use Prim.Native.Nat.{◌<◌, ◌^◌}
 use native.Mathlib.Omega.{arith}
 use Rattle.stores.specs.Store.{word}
-use Rattle.index_directory.proofs.BitSets.{full_none, full_word, missing_in_word, missing_behind}
+use Rattle.index_directory.proofs.BitSets.{full_word, missing_in_word, missing_behind}
 use Rattle.index_directory.proofs.bit_set.BitSet.smallest_missing.Goals as goal
-
-pub loop-i-init : goal.loop-i-init
-loop-i-init c = full_none c.args.self.now.words
 
 pub returns-then-word : goal.returns-then-word
 returns-then-word c =
