@@ -80,13 +80,8 @@ module _ {h : Header} {a : List ℕ} (d : Describes h a) (v : leaders_valid a (d
   pub place_inside : (b : BlockPlace) → BlockRead a i b → PlaceInside b a
   place_inside b r =
       let t = leads_at a i lead in
-      let B = bounds d in
-      let g : depth a ≡ h.depth = d.depth_read in
-      let low : local_depth (entry_at a (depth a) i) ≤ depth a = leader_depth a v i t.below t.own in
-      let below : segment_of (entry_at a (depth a) i) < segments a = leader_segment a v i t.below t.own in (
-        rw (r.base_is, d.max_depth_read) (segment_fits d (segment_of (entry_at a (depth a) i)) (rw d.segments_read at below)),
-        rw r.depth_is (omega arith),
-      )
+      let below : segment_of (entry_at a (depth a) i) < segments a = leader_segment a v i t.below t.own in
+      rw (r.base_is, d.max_depth_read) (segment_fits d (segment_of (entry_at a (depth a) i)) (rw d.segments_read at below))
 
 -- The live records of its segment are the block's.
 pub place_records_holds : (a : List ℕ) (i : ℕ) (b : BlockPlace) → BlockRead a i b → place_records a b ≡ records_led a i

@@ -22,7 +22,7 @@ use Rattle.index_segment.specs.declared.choice.Choice.TheVariants.{Found, Into, 
 use Rattle.index_segment.specs.Answers.{choice_of}
 use Rattle.index_layout.specs.declared.place.Place.{Place}
 use Rattle.index_layout.specs.Blocks.{shared}
-use Rattle.index_layout.specs.Places.{KeyPlace, block_of}
+use Rattle.index_layout.specs.Places.{KeyPlace, shared_at}
 use Rattle.index_layout.proofs.Places.{place_bounds, place_shared}
 
 module _ (a : List ℕ) (key : ℕ) (later : Option Refusal) where
@@ -79,7 +79,7 @@ abbrev pub Stands : Place → List ℕ → (key : ℕ) → Option Refusal → Ty
 Stands p a key t = (t ≡ none) × (p.key ≡ key) × KeyPlace p a
 
 -- The choice of a slot in the segment at the key's place is that of the key.
-pub place_choice : {p : Place} {a : List ℕ} → KeyPlace p a → choose a p.base p.local_depth (shared (block_of p)) p.key ≡ key_choice a p.key
+pub place_choice : {p : Place} {a : List ℕ} → KeyPlace p a → choose a p.base p.local_depth (shared_at p) p.key ≡ key_choice a p.key
 unfolding key_choice
 place_choice {p} {a} k =
     let low : p.local_depth ≤ depth a = rw k.header_read.depth_read (place_bounds k).local_low in

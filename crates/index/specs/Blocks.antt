@@ -38,9 +38,9 @@ abbrev pub FoundAt : Option BlockPlace → List ℕ → (i : ℕ) → Type 0
 FoundAt (Some b) a i = (leads a i ≡ true) × BlockRead a i b
 FoundAt None a i = leads a i ≡ false
 
--- The block's segment lies in the array, and its depth is one that an index has.
+-- The block's segment lies in the array.
 abbrev pub PlaceInside : BlockPlace → List ℕ → Type 0
-PlaceInside b a = (b.base + 128 ≤ length a) × (b.block.local_depth ≤ 12)
+PlaceInside b a = b.base + 128 ≤ length a
 
 -- The live records of the block's segment, slots rising.
 abbrev pub place_records : List ℕ → BlockPlace → List Record

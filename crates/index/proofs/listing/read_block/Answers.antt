@@ -1,4 +1,5 @@
 -- `index::listing::read_block` meets its contract.
+use Prim.Native.Nat.{◌≤◌}
 use native.Mathlib.Omega.{arith}
 use Rattle.index_laws.proofs.Keys.{width_le}
 use Rattle.index_layout.proofs.Shapes.{bounds}
@@ -52,3 +53,10 @@ returns c =
 
 pub pow2-requires : goal.pow2-requires
 pow2-requires c = let b = bounds c.requires.0.0 in omega arith
+
+pub invariant_of-result : goal.invariant_of-result
+invariant_of-result c =
+    let b = bounds c.requires.0.0 in
+    let l = leader_bounds c.requires.0.0 c.requires.0.1 _ c.requires.1 _ c.pow2.ensures in
+    let low : c.local_depth_of-local_depth.result ≤ c.args.header.depth = rw c.local_depth_of-local_depth.ensures l.depth_low in
+    record { shallow = omega (arith, low, b.depth_high) }

@@ -8,7 +8,7 @@ use borrow.Author.Rules.{rules}
 use Rattle.index.proofs.slot.choose_at.Goals as goal
 
 pub choose-requires : goal.choose-requires
-choose-requires c = let p = place_bounds c.requires in (search rules, p.local_small)
+choose-requires c = let p = place_bounds c.requires in search rules
 
 pub returns : goal.returns
 returns c =
@@ -24,3 +24,6 @@ offset_bounds-words-base c = let p = place_bounds c.requires in omega arith
 
 pub slice_bounds-choose-end : goal.slice_bounds-choose-end
 slice_bounds-choose-end c = let p = place_bounds c.requires in omega arith
+
+pub invariant_of-block : goal.invariant_of-block
+invariant_of-block c = record { shallow = (place_bounds c.requires).local_small }
