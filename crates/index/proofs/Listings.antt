@@ -17,7 +17,6 @@ use lib.ListN.{length, length-append}
 use Rattle.stores.specs.Store.{word}
 use Rattle.replies.specs.declared.Refusal.{Refusal}
 use Rattle.replies.specs.declared.Refusal.TheVariants.{NoStore, ShortList, NoLeader}
-use Rattle.replies.specs.declared.Answer.{Answer}
 use Rattle.index_rules.specs.Layout.{valid_header, depth, segments, entry_at, segment_of, local_depth}
 use Rattle.index_rules.specs.Keys.{width}
 use Rattle.index_rules.specs.Scan.{leader, leaders_valid}
@@ -25,7 +24,6 @@ use Rattle.replies.specs.declared.Reply.{Reply}
 use Rattle.replies.specs.declared.Reply.TheVariants.{Value, Listed}
 use Rattle.replies.specs.Replies.{listed, said_by, unless}
 use Rattle.replies.specs.Writing.{Writing, behind_tests}
-use Rattle.replies.specs.Answered.{Wrote}
 use Rattle.index_rules.specs.Put.{directory_tests}
 use Rattle.index_rules.specs.Listing.{block_records, records, words_of, listing_tests, room_test, list_tests, list}
 use Rattle.index_rules.specs.ListBlock.{leads, records_led, following, following_led, list_block_tests, list_block}
@@ -189,10 +187,6 @@ module _ {a : List ℕ} {count i : ℕ} {b : BlockPlace} (t : Turn a count i b) 
       rw (t.adds, words_append) (written_append _ _ 0 l m l₁ n l₂ (omega arith) p q)
 
 -- ---- What the calls answer
-
--- An answer with no store, whose reply is the listing's.
-pub wrote : (w : Writing) (x : Result Reply Refusal) (r : Answer) (l l' : List ℕ) → (r.reply ≡ x) × (r.stores ≡ 0) → ListedBy w x l l' → Wrote w r l l'
-wrote w x r l l' k e = record { reply = ap said_by k.0 ∙ e.0; stores = k.1; left = e.1 }
 
 -- A writing behind tests that refuse, and behind tests that pass.
 module _ (t : Option Refusal) (w : Writing) (l : List ℕ) where

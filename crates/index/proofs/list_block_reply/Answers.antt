@@ -15,9 +15,6 @@ returns-in_err-header c =
     let p = err_from_is_err_and c.from_residual.result c.from_residual.ensures.1 in
     rw (p.1, p.2) (block_refused _ _ _ _ c.in_err-header.ensures)
 
-pub find_block-requires : goal.find_block-requires
-find_block-requires c = c.in_ok-header.ensures
-
 pub returns-in_err-place : goal.returns-in_err-place
 returns-in_err-place c =
     let p = err_from_is_err_and c.from_residual-in_err-place.result c.from_residual-in_err-place.ensures.1 in

@@ -10,9 +10,6 @@ use Rattle.index.proofs.remove.Goals as goal
 pub returns-in-Err : goal.returns-in-Err
 returns-in-Err c = remove_refused _ _ _ _ _ c.in-Err.ensures (ap said_by c.without_store.ensures.0, c.without_store.ensures.1)
 
-pub choose_at-requires : goal.choose_at-requires
-choose_at-requires c = c.in-Ok.ensures.2
-
 pub returns-in_default : goal.returns-in_default
 returns-in_default c =
     let x = c.in-Ok.ensures in

@@ -1,6 +1,0 @@
--- `index::list` meets its contract.
-use Rattle.index.proofs.Listings.{wrote}
-use Rattle.index.proofs.list.Goals as goal
-
-pub returns : goal.returns
-returns c = wrote _ _ _ _ _ c.without_store.ensures c.list_reply.ensures
