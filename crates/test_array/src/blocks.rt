@@ -5,6 +5,7 @@ use crate::array::{Shape, entry_at, key_address, local_depth_of, power, segment_
 use crate::records::Record;
 use crate::route::index_at;
 use crate::words::word_at;
+use std::ops::Range;
 
 // A block: the shape of its array, the segment and the local depth that its entry gives, its first index, its
 // indices.
@@ -41,6 +42,11 @@ pub fn block_at(words: &[u64], shape: Shape, index: u32) -> Block {
 // The block that a key's entry belongs to.
 pub fn block_of(words: &[u64], shape: Shape, key: u64) -> Block {
     block_at(words, shape, index_at(key, shape.depth))
+}
+
+// The directory indices of a block.
+pub fn indices_of(block: Block) -> Range<u32> {
+    block.start..block.start.saturating_add(block.width)
 }
 
 // The address of the key of a slot of the block's segment; its value is behind it.
