@@ -58,6 +58,15 @@ pub fn words_before(max_depth: u32, segment: u32) -> usize
     2 * (power(max_depth) as usize) + SEGMENT_WORDS * (segment as usize)
 }
 
+// The fields of a word 0, allowed or not.
+pub fn fields_of(first: u64) -> Shape {
+    Shape {
+        depth: (first % MAX_DEPTH_UNIT) as u32,
+        max_depth: (first / MAX_DEPTH_UNIT % 256) as u32,
+        segments: (first / SEGMENTS_UNIT % 65536) as u32,
+    }
+}
+
 // The shape that word 0 gives to an array, if it is sound: it has the mark, its fields are allowed, and the
 // array has the words for them; so no array of no words is.
 pub fn shape_of(words: &[u64]) -> Option<Shape> {
@@ -65,10 +74,11 @@ pub fn shape_of(words: &[u64]) -> Option<Shape> {
     if first / MARK_UNIT != MARK {
         return None;
     }
+    let fields = fields_of(first);
     let shape = shape_from(
-        first % MAX_DEPTH_UNIT,
-        first / MAX_DEPTH_UNIT % 256,
-        first / SEGMENTS_UNIT % 65536,
+        u64::from(fields.depth),
+        u64::from(fields.max_depth),
+        u64::from(fields.segments),
     )?;
     if words.len() < words_before(shape.max_depth, shape.segments) {
         return None;

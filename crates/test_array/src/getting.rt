@@ -15,9 +15,7 @@ pub fn get(words: &[u64], key: u64) -> Result<Reply, Refusal> {
         return Err(Refusal::Broken);
     }
     Ok(match find_held(words, block, key, key) {
-        Some(slot) => Reply::Found {
-            value: value_in(words, block, slot),
-        },
+        Some(slot) => Reply::Value(value_in(words, block, slot)),
         None => Reply::Absent,
     })
 }

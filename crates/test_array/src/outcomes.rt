@@ -18,14 +18,45 @@ pub enum Refusal {
     NoLeader,
 }
 
-// The reply of a call that is not refused: done; a get's value; a list's number of records; that of a list of
+// All refusals, in the order of their numbers.
+const REFUSALS: [Refusal; 13] = [
+    Refusal::NoStore,
+    Refusal::NoKey,
+    Refusal::Broken,
+    Refusal::Unmended,
+    Refusal::TooDeep,
+    Refusal::NoSegment,
+    Refusal::CutOff,
+    Refusal::BadShape,
+    Refusal::TooShort,
+    Refusal::ShortList,
+    Refusal::NoBuddy,
+    Refusal::BothLive,
+    Refusal::NoLeader,
+];
+
+// A number that no refusal of the index has, as those of the board.
+#[derive(Clone, Copy, PartialEq, Eq)]
+pub struct UnknownNumber(pub u32);
+
+impl TryFrom<u32> for Refusal {
+    type Error = UnknownNumber;
+
+    fn try_from(number: u32) -> Result<Refusal, UnknownNumber> {
+        let mut refusals = REFUSALS.iter().copied();
+        refusals
+            .find(|refusal| *refusal as u32 == number)
+            .ok_or(UnknownNumber(number))
+    }
+}
+
+// The reply of a call that is not refused: done; a get's value, or a list's number of records; that of a list of
 // one block, with the next block's index where there is one; or absent.
 #[derive(Clone, Copy, PartialEq, Eq)]
 pub enum Reply {
     Done,
-    Found { value: u64 },
-    Listed { records: u64 },
-    BlockListed { records: u64, next: Option<u64> },
+    Value(u64),
+    Listed { records: u64, next: Option<u64> },
     Absent,
 }
 

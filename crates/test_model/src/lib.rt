@@ -85,14 +85,14 @@ impl Change {
 
 // What a list replies.
 fn list_reply(words: &[u64], room: usize) -> Result<Reply, Refusal> {
-    let records = list(words, room)?.len() as u64;
-    Ok(Reply::Listed { records })
+    let records = list(words, room)?;
+    Ok(Reply::Value(records.len() as u64))
 }
 
 // What a list of one block replies.
 fn list_block_reply(words: &[u64], index: u64, room: usize) -> Result<Reply, Refusal> {
     let part = list_block(words, index, room)?;
-    Ok(Reply::BlockListed {
+    Ok(Reply::Listed {
         records: part.records.len() as u64,
         next: part.next,
     })
