@@ -1,7 +1,7 @@
 // The array of words as the model sees it: word 0, entries, addresses.
 ghost use Rattle.std.specs.Prelude.{◌≤◌};
 
-use crate::words::{Cells, word_at};
+use crate::words::word_at;
 
 // Document 02's mark in bits 32 to 63 of word 0, and the weights of the fields.
 const MARK: u64 = 0x50414746;
@@ -20,56 +20,34 @@ const SEGMENT_WORDS: usize = 128;
 
 pub const SLOTS: u32 = 64;
 
-// What word 0 says, and whether it is sound. All fields are 0 where it is not.
+// The fields of word 0: document 01's G, D and S.
 #[derive(Clone, Copy)]
 pub struct Shape {
-    pub sound: bool,
     pub depth: u32,
     pub max_depth: u32,
     pub segments: u32,
 }
 
-// The shape of an array that is not sound.
-const UNSOUND: Shape = Shape {
-    sound: false,
-    depth: 0,
-    max_depth: 0,
-    segments: 0,
-};
-
 // 2 to the power of a number up to 16; 65,536 above.
 pub fn power(exponent: u32) -> u32
     ensures { (1 ≤ result) × (result ≤ 65536) }
 {
-    if 16 < exponent {
-        return 65536;
-    }
-    1u32 << exponent
+    1 << exponent.min(16)
 }
 
 // The shape of these fields, if document 01 allows them: D 2 to 12, G at most D, S 1 to 2^D.
-pub fn shape_from(depth: u64, max_depth: u64, segments: u64) -> Shape {
-    if max_depth < 2 {
-        return UNSOUND;
+pub fn shape_from(depth: u64, max_depth: u64, segments: u64) -> Option<Shape> {
+    if max_depth < 2 || 12 < max_depth || max_depth < depth {
+        return None;
     }
-    if 12 < max_depth {
-        return UNSOUND;
+    if segments < 1 || u64::from(power(max_depth as u32)) < segments {
+        return None;
     }
-    if max_depth < depth {
-        return UNSOUND;
-    }
-    if segments < 1 {
-        return UNSOUND;
-    }
-    if segments > power(max_depth as u32) as u64 {
-        return UNSOUND;
-    }
-    Shape {
-        sound: true,
+    Some(Shape {
         depth: depth as u32,
         max_depth: max_depth as u32,
         segments: segments as u32,
-    }
+    })
 }
 
 // The words before a segment: 2^(D+1) + 128 s. Before segment S, one behind the last, these are all the
@@ -80,22 +58,32 @@ pub fn words_before(max_depth: u32, segment: u32) -> usize
     2 * (power(max_depth) as usize) + SEGMENT_WORDS * (segment as usize)
 }
 
-// The shape that word 0 gives to an array of this length. It is sound only if the array has the words
-// for it; so no array of no words is.
-pub fn shape_of(words: &Cells, length: usize) -> Shape {
+// The fields of a word 0, allowed or not.
+pub fn fields_of(first: u64) -> Shape {
+    Shape {
+        depth: (first % MAX_DEPTH_UNIT) as u32,
+        max_depth: (first / MAX_DEPTH_UNIT % 256) as u32,
+        segments: (first / SEGMENTS_UNIT % 65536) as u32,
+    }
+}
+
+// The shape that word 0 gives to an array, if it is sound: it has the mark, its fields are allowed, and the
+// array has the words for them; so no array of no words is.
+pub fn shape_of(words: &[u64]) -> Option<Shape> {
     let first = word_at(words, 0);
     if first / MARK_UNIT != MARK {
-        return UNSOUND;
+        return None;
     }
+    let fields = fields_of(first);
     let shape = shape_from(
-        first % MAX_DEPTH_UNIT,
-        first / MAX_DEPTH_UNIT % 256,
-        first / SEGMENTS_UNIT % 65536,
-    );
-    if length < words_before(shape.max_depth, shape.segments) {
-        return UNSOUND;
+        u64::from(fields.depth),
+        u64::from(fields.max_depth),
+        u64::from(fields.segments),
+    )?;
+    if words.len() < words_before(shape.max_depth, shape.segments) {
+        return None;
     }
-    shape
+    Some(shape)
 }
 
 // The word 0 of this shape.
@@ -112,7 +100,7 @@ pub fn entry_address(depth: u32, index: u32) -> usize {
 }
 
 // The entry at an index of the directory of this depth.
-pub fn entry_at(words: &Cells, depth: u32, index: u32) -> u64 {
+pub fn entry_at(words: &[u64], depth: u32, index: u32) -> u64 {
     word_at(words, entry_address(depth, index))
 }
 

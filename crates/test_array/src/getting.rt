@@ -1,31 +1,21 @@
 // The get.
 use crate::array::shape_of;
 use crate::blocks::{block_of, is_in_range, value_in};
-use crate::outcomes::{ABSENT, BROKEN, DONE, NO_KEY, NO_STORE, Outcome, without_value};
-use crate::placing::{NO_SLOT, find_held};
-use crate::words::Cells;
+use crate::outcomes::{Refusal, Reply};
+use crate::placing::find_held;
 
 // A get: the value of a key. It goes by the key's own entry alone.
-pub fn get(words: &Cells, length: usize, key: u64) -> Outcome {
-    let shape = shape_of(words, length);
-    if !shape.sound {
-        return without_value(NO_STORE, 0);
-    }
+pub fn get(words: &[u64], key: u64) -> Result<Reply, Refusal> {
+    let shape = shape_of(words).ok_or(Refusal::NoStore)?;
     if key == 0 {
-        return without_value(NO_KEY, 0);
+        return Err(Refusal::NoKey);
     }
-    let block = block_of(words, length, key);
-    if !is_in_range(shape, block) {
-        return without_value(BROKEN, 0);
+    let block = block_of(words, shape, key);
+    if !is_in_range(block) {
+        return Err(Refusal::Broken);
     }
-    let slot = find_held(words, block, key, key);
-    if slot == NO_SLOT {
-        return without_value(ABSENT, 0);
-    }
-    Outcome {
-        reply: DONE,
-        stores: 0,
-        value: value_in(words, block, slot),
-        next: 0,
-    }
+    Ok(match find_held(words, block, key, key) {
+        Some(slot) => Reply::Value(value_in(words, block, slot)),
+        None => Reply::Absent,
+    })
 }

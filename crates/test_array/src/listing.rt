@@ -1,57 +1,46 @@
-// The list: its records, collected in a row in document 02's order (wish 3), block by block from the left
-// of the directory, and by rising slot number within a segment.
-use crate::array::{SLOTS, power, shape_of};
-use crate::blocks::{Block, block_at, key_in, value_in};
-use crate::outcomes::{DONE, Outcome, SHORT_LIST, without_value};
+// The list: its records, in document 02's order (wish 3), block by block from the left of the directory, and by
+// rising slot number within a segment.
+use crate::array::{SLOTS, Shape, power};
+use crate::blocks::{Block, block_at, record_in};
+use crate::outcomes::Refusal;
+use crate::records::Records;
 use crate::route::is_live;
 use crate::scan::tests_of_list;
-use crate::words::{CELLS, Cells, append};
 
-// Puts the records of a block that are live, key then value, behind those of the row, slots rising.
-pub fn collect_block(words: &Cells, block: Block, row: &mut Cells) {
+// Puts the records of a block that are live behind the others, slots rising.
+pub fn collect_block(words: &[u64], block: Block, records: &mut Records) {
     for slot in 0..SLOTS {
-        let key = key_in(words, block, slot);
-        if is_live(key, block) {
-            append(row, key);
-            append(row, value_in(words, block, slot));
+        let record = record_in(words, block, slot);
+        if is_live(record.key, block) {
+            let _ = records.try_push(record);
         }
     }
 }
 
-// The records of an index whose directory is tidy, key then value, as a row in the order of a list. In such
-// a directory an index leads its block if that starts at it.
-pub fn records(words: &Cells, length: usize) -> Cells {
-    let shape = shape_of(words, length);
+// The records of an index whose directory is tidy. In such a directory an index leads its block if that starts
+// at it.
+fn records_of(words: &[u64], shape: Shape) -> Records {
+    let mut records = Records::new();
     let count = power(shape.depth);
-    let mut row = [0u64; CELLS];
     for index in 0..count {
         let block = block_at(words, shape, index);
         if block.start == index {
-            collect_block(words, block, &mut row);
+            collect_block(words, block, &mut records);
         }
     }
-    row
+    records
 }
 
-// The outcome of a list that takes this many words, two for each record, if `room` words of a list array
-// hold them.
-pub fn listed(taken: u64, room: usize, next: u64) -> Outcome {
-    if (room as u64) < taken {
-        return without_value(SHORT_LIST, 0);
+// The records, if `room` words of a list array hold them, two for each.
+pub fn fitting(records: Records, room: usize) -> Result<Records, Refusal> {
+    if room / 2 < records.len() {
+        return Err(Refusal::ShortList);
     }
-    Outcome {
-        reply: DONE,
-        stores: 0,
-        value: taken / 2,
-        next,
-    }
+    Ok(records)
 }
 
-// A list: how many records there are.
-pub fn list(words: &Cells, length: usize, room: usize) -> Outcome {
-    let refusal = tests_of_list(words, length);
-    if refusal != DONE {
-        return without_value(refusal, 0);
-    }
-    listed(records(words, length)[0], room, 0)
+// A list: the records that it writes.
+pub fn list(words: &[u64], room: usize) -> Result<Records, Refusal> {
+    let shape = tests_of_list(words)?;
+    fitting(records_of(words, shape), room)
 }

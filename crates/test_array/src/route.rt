@@ -46,11 +46,8 @@ pub fn is_live(key: u64, block: Block) -> bool {
     if key == 0 {
         return false;
     }
-    let index = index_at(key, block.depth);
-    if index < block.start {
-        return false;
-    }
-    index - block.start < block.width
+    let index = index_at(key, block.shape.depth);
+    block.start <= index && index - block.start < block.width
 }
 
 // Slot `number` of a key's window, the first being 0. The slots of four buckets on, bucket 0

@@ -1,19 +1,64 @@
-// The arrays of the test, lent as one: that of the index, that of the model, a saved one, the plain
-// table, the counts, and the list array of the last list. All have one length and keep it by their type.
-use test_array::words::Cells;
+// The arrays of the test: that of the index, that of the model, a saved one, and the list array of the last
+// list; how many words of them are lent to a call; and the counts.
+ghost use Rattle.std.specs.Prelude.{◌≤◌};
 
-pub const ARRAYS: usize = 6;
+use crate::tally::Tally;
+use test_array::words::{Cells, WORDS};
 
-pub type Arrays = [Cells; ARRAYS];
+#[derive(Clone, Copy)]
+pub struct Arrays {
+    pub index: Cells,
+    pub model: Cells,
+    pub saved: Cells,
+    pub listed: Cells,
+    pub tally: Tally,
+    length: usize,
+}
 
-pub const INDEX: usize = 0;
+impl Arrays {
+    // Arrays of 0, with nothing lent and nothing counted.
+    pub fn new() -> Arrays {
+        Arrays {
+            index: [0; WORDS],
+            model: [0; WORDS],
+            saved: [0; WORDS],
+            listed: [0; WORDS],
+            tally: Tally::default(),
+            length: 0,
+        }
+    }
 
-pub const MODEL: usize = 1;
+    // Begins a case: counts it, and lends the first words of the arrays to the calls that follow.
+    pub fn begin_case(&mut self, length: usize) {
+        self.tally.count_case();
+        self.length = length;
+    }
 
-pub const SAVED: usize = 2;
+    // How many words are lent.
+    pub(crate) fn lent(&self) -> usize
+        ensures { result ≤ 10000 }
+    {
+        self.length.min(WORDS)
+    }
 
-pub const TABLE: usize = 3;
+    // Saves the index's array.
+    pub fn save(&mut self) {
+        self.saved.copy_from_slice(&self.index);
+    }
 
-pub const TALLY: usize = 4;
+    // The index's and the model's array as saved.
+    pub fn restore(&mut self) {
+        self.index.copy_from_slice(&self.saved);
+        self.model.copy_from_slice(&self.saved);
+    }
 
-pub const LISTED: usize = 5;
+    // Gives the model's array the words of the index's.
+    pub fn copy_to_model(&mut self) {
+        self.model.copy_from_slice(&self.index);
+    }
+
+    // Counts a comparison: a difference if it failed.
+    pub fn expect(&mut self, holds: bool) {
+        self.tally.expect(holds);
+    }
+}

@@ -4,5 +4,8 @@
 
 pub mod arrays;
 pub mod compare;
-pub mod report;
+pub mod family;
+mod kind;
+mod lines;
+mod said;
 pub mod tally;

@@ -1,10 +1,8 @@
 // The model: document 01's calls, as document 02 changes and adds to them, written a second time, from the
 // documents alone. It shares no function and no definition with `index` or `index_rules`, and works in another
 // way: a call that stores first makes all its due stores on a copy and notes each, whatever the allowance;
-// then the first noted stores, as many as are allowed, are made on the array. Blocks and used segments are
+// then the first noted stores, as many as are allowed, are made on the words. Blocks and used segments are
 // found by marking. What the calls only read is in `test_array`.
-//
-// An index is the first `length` words of an array of the type `Cells`.
 #![tactic(auto)]
 
 mod formatting;
@@ -20,79 +18,114 @@ use merging::plan_merge;
 use putting::plan_put;
 use removing::plan_remove;
 use test_array::block_listing::list_block;
-use test_array::draft::{carry_out, draft_of};
+use test_array::draft::Draft;
 use test_array::getting::get;
 use test_array::listing::list;
-use test_array::outcomes::{DONE, Outcome};
-use test_array::words::Cells;
+use test_array::outcomes::{Outcome, Refusal, Reply};
+use test_array::records::{Record, Records};
 
 // An allowance that cuts no call off.
 pub const ALL_STORES: u32 = 4294967295;
 
-// A call: a format with D and S, a get with its key, a put with key and value, a remove and a merge with
-// their key, a mend, a list with the words of its list array, a list of one block with its directory index
-// and the words of its list array. Those that store have their allowance last.
+// A call that stores.
+#[derive(Clone, Copy)]
+pub enum Change {
+    Format { max_depth: u64, segments: u64 },
+    Put { key: u64, value: u64 },
+    Remove { key: u64 },
+    Merge { key: u64 },
+    Mend,
+}
+
+// A call: one that stores, with the stores that it may make; or one that only reads. A list, of all blocks or
+// of the one at a directory index, has the words of its list array.
 #[derive(Clone, Copy)]
 pub enum Call {
-    Format(u64, u64, u32),
-    Get(u64),
-    Put(u64, u64, u32),
-    Remove(u64, u32),
-    Merge(u64, u32),
-    Mend(u32),
-    List(usize),
-    ListBlock(u64, usize),
+    Change { change: Change, allowance: u32 },
+    Get { key: u64 },
+    List { room: usize },
+    ListBlock { index: u64, room: usize },
 }
 
-// The plan of a call that stores: its due stores, on the draft, and its reply. The others have none.
-fn plan(draft: &mut Cells, length: usize, call: Call) -> u32 {
-    match call {
-        Call::Format(max_depth, segments, _) => plan_format(draft, length, max_depth, segments),
-        Call::Put(key, value, _) => plan_put(draft, length, key, value),
-        Call::Remove(key, _) => plan_remove(draft, length, key),
-        Call::Merge(key, _) => plan_merge(draft, length, key),
-        Call::Mend(_) => plan_mend(draft, length),
-        _ => DONE,
+impl Change {
+    // The call with this allowance.
+    pub fn allowed(self, allowance: u32) -> Call {
+        Call::Change {
+            change: self,
+            allowance,
+        }
+    }
+
+    // The call that all its stores are allowed.
+    pub fn whole(self) -> Call {
+        self.allowed(ALL_STORES)
+    }
+
+    // Its due stores, on the draft, and its reply.
+    fn plan(self, draft: &mut Draft) -> Result<Reply, Refusal> {
+        match self {
+            Change::Format {
+                max_depth,
+                segments,
+            } => plan_format(draft, max_depth, segments),
+            Change::Put { key, value } => plan_put(draft, Record { key, value }),
+            Change::Remove { key } => plan_remove(draft, key),
+            Change::Merge { key } => plan_merge(draft, key),
+            Change::Mend => plan_mend(draft),
+        }
+    }
+
+    // Makes the call on words.
+    fn perform(self, words: &mut [u64], allowance: u32) -> Outcome {
+        let mut draft = Draft::new(words);
+        let reply = self.plan(&mut draft);
+        draft.carry_out(words, reply, allowance)
     }
 }
 
-// The stores that a call may make.
-fn allowance_of(call: Call) -> u32 {
-    match call {
-        Call::Format(_, _, allowance) => allowance,
-        Call::Put(_, _, allowance) => allowance,
-        Call::Remove(_, allowance) => allowance,
-        Call::Merge(_, allowance) => allowance,
-        Call::Mend(allowance) => allowance,
-        _ => 0,
+// What a list replies.
+fn list_reply(words: &[u64], room: usize) -> Result<Reply, Refusal> {
+    let records = list(words, room)?;
+    Ok(Reply::Value(records.len() as u64))
+}
+
+// What a list of one block replies.
+fn list_block_reply(words: &[u64], index: u64, room: usize) -> Result<Reply, Refusal> {
+    let part = list_block(words, index, room)?;
+    Ok(Reply::Listed {
+        records: part.records.len() as u64,
+        next: part.next,
+    })
+}
+
+impl Call {
+    // The call with another allowance.
+    pub fn allowed(self, allowance: u32) -> Call {
+        match self {
+            Call::Change { change, .. } => change.allowed(allowance),
+            _ => self,
+        }
     }
-}
 
-// The call with another allowance.
-pub fn with_allowance(call: Call, allowance: u32) -> Call {
-    match call {
-        Call::Format(max_depth, segments, _) => Call::Format(max_depth, segments, allowance),
-        Call::Put(key, value, _) => Call::Put(key, value, allowance),
-        Call::Remove(key, _) => Call::Remove(key, allowance),
-        Call::Merge(key, _) => Call::Merge(key, allowance),
-        Call::Mend(_) => Call::Mend(allowance),
-        _ => call,
+    // Makes the call on the words of an index.
+    pub fn perform(self, words: &mut [u64]) -> Outcome {
+        let reply = match self {
+            Call::Change { change, allowance } => return change.perform(words, allowance),
+            Call::Get { key } => get(words, key),
+            Call::List { room } => list_reply(words, room),
+            Call::ListBlock { index, room } => list_block_reply(words, index, room),
+        };
+        Outcome { reply, stores: 0 }
     }
-}
 
-// Makes a call that stores.
-fn change(words: &mut Cells, length: usize, call: Call) -> Outcome {
-    let mut draft = draft_of(words);
-    let reply = plan(&mut draft, length, call);
-    carry_out(words, &draft, reply, allowance_of(call))
-}
-
-// Makes a call on the first `length` words of an array.
-pub fn perform(words: &mut Cells, length: usize, call: Call) -> Outcome {
-    match call {
-        Call::Get(key) => get(words, length, key),
-        Call::List(room) => list(words, length, room),
-        Call::ListBlock(index, room) => list_block(words, length, index, room),
-        _ => change(words, length, call),
+    // The records that the call writes into its list array: none, if it is refused or no list.
+    pub fn records(self, words: &[u64]) -> Records {
+        match self {
+            Call::List { room } => list(words, room).unwrap_or_default(),
+            Call::ListBlock { index, room } => list_block(words, index, room)
+                .map(|part| part.records)
+                .unwrap_or_default(),
+            _ => Records::new(),
+        }
     }
 }

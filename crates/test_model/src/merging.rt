@@ -1,92 +1,101 @@
 // The plan of a merge (document 02, wish 6): the key's block and its buddy become the block one depth
 // shallower, in the left segment.
-use test_array::array::{SLOTS, entry_address, entry_of, key_address, shape_of};
-use test_array::blocks::{Block, block_at, block_of, key_in, value_in};
-use test_array::draft::{note, note_record};
-use test_array::outcomes::{BOTH_LIVE, DONE, NO_BUDDY};
+use std::array;
+use test_array::array::{SLOTS, entry_address, entry_of};
+use test_array::blocks::{
+    Block, block_at, block_of, indices_of, key_address_in, key_in, record_in,
+};
+use test_array::draft::Draft;
+use test_array::outcomes::{Refusal, Reply};
+use test_array::records::Record;
 use test_array::route::is_live;
 use test_array::scan::tests_of_change;
-use test_array::words::Cells;
 
-// The block led at the first index of the other half of the block one depth shallower. The starts of two
-// such halves differ by the weight of one bit, which is their width.
-fn buddy_of(words: &Cells, length: usize, block: Block) -> Block {
-    block_at(words, shape_of(words, length), block.start ^ block.width)
+// The block led at the first index of the other half of the block one depth shallower, if there is such a
+// block and the half has one depth. The starts of two such halves differ by the weight of one bit, which is
+// their width.
+fn buddy_of(words: &[u64], block: Block) -> Option<Block> {
+    let buddy = block_at(words, block.shape, block.start ^ block.width);
+    let is_half = block.local_depth != 0 && buddy.local_depth == block.local_depth;
+    is_half.then_some(buddy)
+}
+
+// Whether the key in a slot of a block is live there.
+fn is_live_in(words: &[u64], block: Block, slot: u32) -> bool {
+    is_live(key_in(words, block, slot), block)
 }
 
 // Whether some slot is live on both sides.
-fn is_both_live(words: &Cells, block: Block, buddy: Block) -> bool {
-    for slot in 0..SLOTS {
-        if is_live(key_in(words, block, slot), block)
-            && is_live(key_in(words, buddy, slot), buddy)
-        {
-            return true;
+fn is_both_live(words: &[u64], block: Block, buddy: Block) -> bool {
+    (0..SLOTS).any(|slot| is_live_in(words, block, slot) && is_live_in(words, buddy, slot))
+}
+
+// What a slot of the left segment comes to have: the right one's record, no key, or what it has.
+#[derive(Clone, Copy)]
+enum Merged {
+    Moved(Record),
+    Cleared,
+    Kept,
+}
+
+// One slot of the left segment: the right one's record if that is live; or no key, where neither is live and
+// the left one's key is not 0.
+fn merged_slot(words: &[u64], left: Block, right: Block, slot: u32) -> Merged {
+    if is_live_in(words, right, slot) {
+        Merged::Moved(record_in(words, right, slot))
+    } else if key_in(words, left, slot) != 0 && !is_live_in(words, left, slot) {
+        Merged::Cleared
+    } else {
+        Merged::Kept
+    }
+}
+
+// Makes the stores of the left segment. What goes there is read before the first one, since in a damaged array
+// both halves can name one segment.
+fn join_slots(draft: &mut Draft, left: Block, right: Block) {
+    let words = draft.words();
+    let merged: [Merged; SLOTS as usize] = array::from_fn(|slot| merged_slot(
+        words,
+        left,
+        right,
+        slot as u32,
+    ));
+    for (slot, merged) in (0..SLOTS).zip(merged) {
+        let at = key_address_in(left, slot);
+        match merged {
+            Merged::Moved(record) => draft.note_record(at, record),
+            Merged::Cleared => draft.note(at, 0),
+            Merged::Kept => {}
         }
     }
-    false
 }
 
-// What a merge of a key's block and the buddy tests; done if nothing is in the way and the buddy has the
-// block's depth.
-fn tests_of_merge(words: &Cells, length: usize, key: u64, block: Block, buddy: Block) -> u32 {
-    let refusal = tests_of_change(words, length, key);
-    if refusal != DONE {
-        refusal
-    } else if block.local_depth == 0 || buddy.local_depth != block.local_depth {
-        NO_BUDDY
-    } else if is_both_live(words, block, buddy) {
-        BOTH_LIVE
-    } else {
-        DONE
+// Gives the entries of both halves, the left one first, the left segment, one depth shallower.
+fn join_entries(draft: &mut Draft, left: Block, right: Block) {
+    let entry = entry_of(left.segment, left.local_depth.saturating_sub(1));
+    for index in indices_of(left).chain(indices_of(right)) {
+        draft.note(entry_address(left.shape.depth, index), entry);
     }
 }
 
-// One slot of the left segment: the right one's record if that is live, value then key; or no key, where
-// neither is live and the left one's key is not 0.
-fn merge_slot(draft: &mut Cells, before: &Cells, left: Block, right: Block, slot: u32) {
-    let at = key_address(left.max_depth, left.segment, slot);
-    let left_key = key_in(before, left, slot);
-    let right_key = key_in(before, right, slot);
-    if is_live(right_key, right) {
-        note_record(draft, at, right_key, value_in(before, right, slot));
-    } else if left_key != 0 && !is_live(left_key, left) {
-        note(draft, at, 0);
-    }
-}
-
-// Gives the entries of both halves, the left one first, one word, from left to right.
-fn join_entries(draft: &mut Cells, left: Block, entry: u64) {
-    let count = left.width.wrapping_add(left.width);
-    for passed in 0..count {
-        let index = left.start.wrapping_add(passed);
-        note(draft, entry_address(left.depth, index), entry);
-    }
-}
-
-// Makes one block of two halves. What goes into the left segment is read from a copy, as it was before
-// the call, since in a damaged array both halves can name one segment.
-fn join(draft: &mut Cells, left: Block, right: Block) {
-    let before = *draft;
-    for slot in 0..SLOTS {
-        merge_slot(draft, &before, left, right, slot);
-    }
-    let entry = entry_of(left.segment, left.local_depth.wrapping_sub(1));
-    join_entries(draft, left, entry);
+// Makes one block of two halves.
+fn join(draft: &mut Draft, left: Block, right: Block) {
+    join_slots(draft, left, right);
+    join_entries(draft, left, right);
 }
 
 // Plans a merge.
-pub(crate) fn plan_merge(draft: &mut Cells, length: usize, key: u64) -> u32 {
-    let words: &Cells = draft;
-    let block = block_of(words, length, key);
-    let buddy = buddy_of(words, length, block);
-    let refusal = tests_of_merge(words, length, key, block, buddy);
-    if refusal != DONE {
-        refusal
-    } else if block.start < buddy.start {
+pub(crate) fn plan_merge(draft: &mut Draft, key: u64) -> Result<Reply, Refusal> {
+    let shape = tests_of_change(draft.words(), key)?;
+    let block = block_of(draft.words(), shape, key);
+    let buddy = buddy_of(draft.words(), block).ok_or(Refusal::NoBuddy)?;
+    if is_both_live(draft.words(), block, buddy) {
+        return Err(Refusal::BothLive);
+    }
+    if block.start < buddy.start {
         join(draft, block, buddy);
-        DONE
     } else {
         join(draft, buddy, block);
-        DONE
     }
+    Ok(Reply::Done)
 }

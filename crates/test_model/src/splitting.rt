@@ -1,92 +1,89 @@
 // The split of a segment, as stores on the draft.
 use test_array::array::{
-    SLOTS, entry_address, entry_at, entry_of, key_address, power, segment_of, shape_of,
+    SLOTS, Shape, entry_address, entry_at, entry_of, first_word, key_address, power, segment_of,
 };
-use test_array::blocks::{Block, block_of, key_in, value_in};
-use test_array::draft::{note, note_record};
+use test_array::blocks::{Block, block_of, indices_of, record_in};
+use test_array::draft::Draft;
+use test_array::outcomes::Refusal;
 use test_array::route::{is_live, route_bit};
-use test_array::words::{CELLS, Cells, set_word, word_at};
 
-// No segment: more than any number of segments.
-pub(crate) const NO_SEGMENT_NUMBER: u32 = 65536;
+// The segments of the largest index.
+const SEGMENTS: usize = 4096;
 
-// A mark for each segment that an entry of the directory names.
-fn marks_of_named(words: &Cells, depth: u32) -> Cells {
-    let count = power(depth);
-    let mut named = [0u64; CELLS];
-    for index in 0..count {
-        set_word(
-            &mut named,
-            segment_of(entry_at(words, depth, index)) as usize,
-            1,
-        );
+// For each segment whether an entry of the directory names it.
+fn named_segments(words: &[u64], depth: u32) -> [bool; SEGMENTS] {
+    let mut named = [false; SEGMENTS];
+    for index in 0..power(depth) {
+        let segment = segment_of(entry_at(words, depth, index));
+        if let Some(mark) = named.get_mut(segment as usize) {
+            *mark = true;
+        }
     }
     named
 }
 
-// The smallest number below S that no entry names (split, step 1), or no segment.
-pub(crate) fn free_number(words: &Cells, length: usize) -> u32 {
-    let shape = shape_of(words, length);
-    let named = marks_of_named(words, shape.depth);
-    for segment in 0..shape.segments {
-        if word_at(&named, segment as usize) == 0 {
-            return segment;
-        }
-    }
-    NO_SEGMENT_NUMBER
+// The smallest number below S that no entry names (split, step 1).
+fn free_segment(words: &[u64], shape: Shape) -> Option<u32> {
+    let named = named_segments(words, shape.depth);
+    (0..shape.segments).find(|segment| named.get(*segment as usize) == Some(&false))
 }
 
-// Doubles the directory of this depth (split, step 2): its entries, rising, of which entry e gets the entry
-// floor(e / 2) of before, and then word 0, whose lowest bits hold G: with one more it has G + 1.
-pub(crate) fn double(draft: &mut Cells, depth: u32) {
-    let deeper = depth.wrapping_add(1);
-    let count = power(deeper);
-    for index in 0..count {
-        let entry = entry_at(draft, depth, index / 2);
-        note(draft, entry_address(deeper, index), entry);
+// Doubles the directory (split, step 2): its entries, rising, of which entry e gets the entry floor(e / 2) of
+// before, and then word 0 with the depth that is one more. It answers the new shape.
+fn double(draft: &mut Draft, shape: Shape) -> Shape {
+    let depth = shape.depth.saturating_add(1);
+    for index in 0..power(depth) {
+        let entry = entry_at(draft.words(), shape.depth, index / 2);
+        draft.note(entry_address(depth, index), entry);
     }
-    let first = word_at(draft, 0);
-    note(draft, 0, first.wrapping_add(1));
+    let doubled = Shape { depth, ..shape };
+    draft.note(0, first_word(doubled));
+    doubled
 }
 
 // One slot of the copy step (split, step 3): a live record whose route bit number L is 1 goes to the
 // same slot of the new segment; any other slot is emptied there.
-fn copy_slot(draft: &mut Cells, block: Block, new_segment: u32, slot: u32) {
-    let words: &Cells = draft;
-    let key = key_in(words, block, slot);
-    let value = value_in(words, block, slot);
-    let at = key_address(block.max_depth, new_segment, slot);
-    if is_live(key, block) && route_bit(key, block.local_depth) == 1 {
-        note_record(draft, at, key, value);
+fn copy_slot(draft: &mut Draft, block: Block, new_segment: u32, slot: u32) {
+    let record = record_in(draft.words(), block, slot);
+    let at = key_address(block.shape.max_depth, new_segment, slot);
+    if is_live(record.key, block) && route_bit(record.key, block.local_depth) == 1 {
+        draft.note_record(at, record);
     } else {
-        note(draft, at, 0);
+        draft.note(at, 0);
     }
 }
 
 // The entries of a block (split, step 4), from right to left: the right half gets the new segment, then the
 // left half the old one, both one deeper.
-fn halve(draft: &mut Cells, block: Block, new_segment: u32) {
-    let deeper = block.local_depth.wrapping_add(1);
-    for passed in 0..block.width {
-        let segment = if passed < block.width / 2 {
-            new_segment
-        } else {
-            block.segment
-        };
-        let index = block.start.wrapping_add(block.width - 1 - passed);
-        note(
-            draft,
-            entry_address(block.depth, index),
-            entry_of(segment, deeper),
-        );
+fn halve(draft: &mut Draft, block: Block, new_segment: u32) {
+    let deeper = block.local_depth.saturating_add(1);
+    for index in indices_of(block).rev() {
+        let is_left = index < block.start.saturating_add(block.width / 2);
+        let segment = if is_left { block.segment } else { new_segment };
+        let at = entry_address(block.shape.depth, index);
+        draft.note(at, entry_of(segment, deeper));
     }
 }
 
-// Divides the key's block, as it is after any doubling, between its segment and the new one.
-pub(crate) fn divide(draft: &mut Cells, length: usize, key: u64, new_segment: u32) {
-    let block = block_of(draft, length, key);
+// Divides a block between its segment and the new one.
+fn divide(draft: &mut Draft, block: Block, new_segment: u32) {
     for slot in 0..SLOTS {
         copy_slot(draft, block, new_segment, slot);
     }
     halve(draft, block, new_segment);
+}
+
+// Splits a key's block, if that can be, with a doubling where it has one index. It answers the shape behind it.
+pub(crate) fn split(draft: &mut Draft, block: Block, key: u64) -> Result<Shape, Refusal> {
+    let mut shape = block.shape;
+    if block.local_depth == shape.max_depth {
+        return Err(Refusal::TooDeep);
+    }
+    let new_segment = free_segment(draft.words(), shape).ok_or(Refusal::NoSegment)?;
+    if block.local_depth == shape.depth {
+        shape = double(draft, shape);
+    }
+    let block = block_of(draft.words(), shape, key);
+    divide(draft, block, new_segment);
+    Ok(shape)
 }

@@ -1,8 +1,9 @@
 // Random damage to an array: one place is spoiled, as word 0, an entry or a slot.
 use test_array::array::{
-    LOCAL_DEPTH_UNIT, MAX_DEPTH_UNIT, SEGMENTS_UNIT, entry_address, entry_at, power, words_before,
+    LOCAL_DEPTH_UNIT, MAX_DEPTH_UNIT, SEGMENTS_UNIT, Shape, entry_address, entry_at, power,
+    words_before,
 };
-use test_array::words::{Cells, set_word, word_at};
+use test_array::words::{set_word, word_at};
 
 // The weight of the upper half of a word: the mark of word 0, and an entry's local depth.
 const UPPER_HALF: u64 = LOCAL_DEPTH_UNIT;
@@ -13,23 +14,6 @@ fn below(roll: u64, bound: u32) -> u32 {
         return 0;
     }
     (roll % UPPER_HALF) as u32 % bound
-}
-
-// The fields of word 0.
-#[derive(Clone, Copy)]
-pub struct Shape {
-    depth: u32,
-    max_depth: u32,
-    segments: u32,
-}
-
-// The shape that word 0 gives.
-pub fn shape_in(first: u64) -> Shape {
-    Shape {
-        depth: (first % 256) as u32,
-        max_depth: (first / MAX_DEPTH_UNIT % 256) as u32,
-        segments: (first / SEGMENTS_UNIT % 65536) as u32,
-    }
 }
 
 // Word 0 with one field more or less by one, of which the mark becomes document 01's, or another word.
@@ -66,31 +50,29 @@ fn spoiled_entry(entry: u64, other: u64, shape: Shape, roll: u64) -> u64 {
 }
 
 // Spoils an entry of the directory.
-fn spoil_entry(words: &mut Cells, shape: Shape, roll: u64) {
+fn spoil_entry(words: &mut [u64], shape: Shape, roll: u64) {
     let count = power(shape.depth);
     let at = count as usize + below(roll / 8, count) as usize;
-    let seen: &Cells = words;
-    let other = word_at(seen, count as usize + below(roll / 65536, count) as usize);
-    let entry = word_at(seen, at);
+    let other = word_at(words, count as usize + below(roll / 65536, count) as usize);
+    let entry = word_at(words, at);
     set_word(words, at, spoiled_entry(entry, other, shape, roll));
 }
 
 // Gives an entry the word of the one that shares a block one shallower with it, so that a block of one
 // index and its buddy name one segment.
-fn share_segment(words: &mut Cells, shape: Shape, roll: u64) {
+fn share_segment(words: &mut [u64], shape: Shape, roll: u64) {
     let index = below(roll / 8, power(shape.depth));
     let buddy = entry_at(words, shape.depth, index ^ 1);
     set_word(words, entry_address(shape.depth, index), buddy);
 }
 
 // Spoils a slot: a stray key, a second copy of its record nearby, no key, or any key.
-fn spoil_slot(words: &mut Cells, stray: u64, shape: Shape, roll: u64) {
+fn spoil_slot(words: &mut [u64], stray: u64, shape: Shape, roll: u64) {
     let base = words_before(shape.max_depth, below(roll / 8, shape.segments));
     let slot = (roll / 65536 % 64) as usize;
     let near = base + 2 * ((slot + (roll / 4194304 % 8) as usize) % 64);
-    let seen: &Cells = words;
-    let key = word_at(seen, near);
-    let value = word_at(seen, near + 1);
+    let key = word_at(words, near);
+    let value = word_at(words, near + 1);
     let spoiled = match roll % 4 {
         0 => stray,
         1 => key,
@@ -103,7 +85,7 @@ fn spoil_slot(words: &mut Cells, stray: u64, shape: Shape, roll: u64) {
 }
 
 // Spoils one place of an array, or none.
-pub fn spoil(words: &mut Cells, stray: u64, shape: Shape, roll: u64) {
+pub fn spoil(words: &mut [u64], stray: u64, shape: Shape, roll: u64) {
     match roll % 16 {
         0..=1 => {
             let first = word_at(words, 0);

@@ -2,21 +2,42 @@
 // number for each step and takes it apart.
 ghost use Rattle.std.specs.Prelude.{◌≤◌};
 
-use test_array::words::{Cells, WORDS, set_word};
-
 // The weight of a key's own number in its folded key, above every bit that the index reads.
 const OWN_UNIT: u64 = 4294967296;
+
+// The numbers behind a first one, without end.
+#[derive(Clone, Copy)]
+pub struct Rolls {
+    last: u64,
+}
+
+impl Rolls {
+    // The numbers behind this one.
+    pub fn after(number: u64) -> Rolls {
+        Rolls { last: number }
+    }
+
+    // The numbers for a seed.
+    pub fn seeded(seed: u64) -> Rolls {
+        let number = seed % 4294967296 * 2654435769 + 88172645463325252;
+        Rolls::after(next(next(next(number))))
+    }
+}
+
+impl Iterator for Rolls {
+    type Item = u64;
+
+    fn next(&mut self) -> Option<u64> {
+        self.last = next(self.last);
+        Some(self.last)
+    }
+}
 
 // The number behind this one. From a number other than 0 it is never 0.
 pub fn next(number: u64) -> u64 {
     let first = number ^ (number << 13);
     let second = first ^ (first >> 7);
     second ^ (second << 17)
-}
-
-// The first number for a seed.
-pub fn from_seed(seed: u64) -> u64 {
-    next(next(next(seed % 4294967296 * 2654435769 + 88172645463325252)))
 }
 
 // A folded key with no bit set that the index reads: number + 1, above those bits. It keeps keys apart
@@ -28,10 +49,8 @@ pub fn own_part(number: u64) -> u64
 }
 
 // Fills the words of an array at random: a format has to stand any.
-pub fn scatter(words: &mut Cells, seed: u64) {
-    let mut roll = from_seed(seed);
-    for at in 0..WORDS {
-        roll = next(roll);
-        set_word(words, at, roll);
+pub fn scatter(words: &mut [u64], seed: u64) {
+    for (word, roll) in words.iter_mut().zip(Rolls::seeded(seed)) {
+        *word = roll;
     }
 }

@@ -1,20 +1,20 @@
 // Random runs: a run's keys, which stand in the plain table, and its calls.
-use crate::generator::{from_seed, next, own_part};
-use test_array::array::power;
-use test_array::block_listing::block_records;
-use test_array::blocks::{Block, block_of};
+ghost use Rattle.std.specs.Prelude.{◌<◌};
+
+use crate::generator::{Rolls, own_part};
+use crate::table::{Entry, Table, size_of};
+use test_array::array::{Shape, power, shape_of};
+use test_array::block_listing::live_records;
+use test_array::blocks::{Block, block_at, block_of};
 use test_array::route::unfolded;
-use test_array::words::{Cells, WORDS, set_word, word_at};
-use test_model::{ALL_STORES, Call};
-
-// The keys of a run. Each has an entry of three words in the table: the key, whether it has a value, and
-// the value.
-pub const KEYS: usize = 48;
-
-pub const ENTRY_WORDS: usize = 3;
+use test_array::words::WORDS;
+use test_model::{ALL_STORES, Call, Change};
 
 // The words of a list array that is always enough for one block.
 pub const PART_WORDS: usize = 128;
+
+// More than every index of a directory. A list's own index may be any number.
+const INDICES: u64 = 65536;
 
 // The weight of the upper half of a word.
 const UPPER_HALF: u64 = 4294967296;
@@ -42,33 +42,22 @@ fn key_for(seed: u64, number: u64, roll: u64) -> u64 {
 }
 
 // Draws the keys of a run, each without a value.
-pub fn draw_keys(table: &mut Cells, seed: u64) {
-    let mut roll = from_seed(seed);
-    for number in 0..KEYS {
-        roll = next(roll);
-        set_word(
-            table,
-            ENTRY_WORDS * number,
-            key_for(seed, number as u64, roll),
-        );
-        set_word(table, ENTRY_WORDS * number + 1, 0);
+pub fn draw_keys(seed: u64) -> Table {
+    let mut table = Table::default();
+    for ((number, entry), roll) in (0..).zip(table.iter_mut()).zip(Rolls::seeded(seed)) {
+        *entry = Entry {
+            key: key_for(seed, number, roll),
+            value: None,
+        };
     }
+    table
 }
 
-// How many keys have a value.
-fn size_of(table: &Cells) -> usize {
-    let mut size: usize = 0;
-    for number in 0..KEYS {
-        if word_at(table, ENTRY_WORDS * number + 1) != 0 {
-            size = size.wrapping_add(1);
-        }
-    }
-    size
-}
-
-// The entry of the key that a step is about.
-pub fn entry_for(roll: u64) -> usize {
-    ENTRY_WORDS * (roll / 16 % 48) as usize
+// The number of the key that a step is about.
+pub fn entry_for(roll: u64) -> usize
+    ensures { result < 48 }
+{
+    (roll / 16 % 48) as usize
 }
 
 // The allowance of a remove: half of them all stores, the others none or one.
@@ -84,7 +73,7 @@ fn room_for(size: usize, roll: u64) -> usize {
     let enough = 2 * (size % 1024);
     match roll % 4 {
         0 => enough,
-        1 => if enough == 0 { 0 } else { enough - 1 },
+        1 => enough.saturating_sub(1),
         2 => 0,
         _ => WORDS,
     }
@@ -93,7 +82,7 @@ fn room_for(size: usize, roll: u64) -> usize {
 // An index of no directory: 2^G, some way behind it, an index that is right but for its upper bits, or the
 // largest number.
 fn index_beyond(block: Block, roll: u64) -> u64 {
-    let end = power(block.depth) as u64;
+    let end = power(block.shape.depth) as u64;
     match roll % 4 {
         0 => end,
         1 => end + roll / 4 % 256,
@@ -122,69 +111,87 @@ fn part_room(enough: usize, roll: u64) -> usize {
         0..=2 => PART_WORDS,
         3 => PART_WORDS - 1,
         4 => needed,
-        5 => if needed == 0 { 0 } else { needed - 1 },
+        5 => needed.saturating_sub(1),
         6 => needed + 1,
         _ => 0,
     }
 }
 
-// A list of one block of an index, near the block of a key.
-pub fn list_block_for(words: &Cells, key: u64, roll: u64) -> Call {
-    let index = index_for(block_of(words, WORDS, key), roll);
-    let enough = block_records(words, WORDS, index)[0] as usize;
-    Call::ListBlock(index, part_room(enough, roll / 16384))
+// What an array that is no store is read as.
+const NO_SHAPE: Shape = Shape {
+    depth: 0,
+    max_depth: 0,
+    segments: 0,
+};
+
+// A list of one block of an array, near the block of a key.
+pub fn list_block_for(words: &[u64], key: u64, roll: u64) -> Call {
+    let shape = shape_of(words).unwrap_or(NO_SHAPE);
+    let index = index_for(block_of(words, shape, key), roll);
+    let listed = block_at(words, shape, (index % INDICES) as u32);
+    let enough = 2 * live_records(words, listed).len();
+    Call::ListBlock {
+        index,
+        room: part_room(enough, roll / 16384),
+    }
 }
 
 // A call that changes nothing: one in four a get, the others a list of one block.
-fn reading_call(words: &Cells, key: u64, roll: u64) -> Call {
+fn reading_call(words: &[u64], key: u64, roll: u64) -> Call {
     if roll % 4 == 0 {
-        return Call::Get(key);
+        return Call::Get { key };
     }
     list_block_for(words, key, roll / 4)
 }
 
 // A format with a shape that is refused, as a run may have it.
-fn refused_format(roll: u64) -> Call {
-    match roll % 4 {
-        0 => Call::Format(1, 1, ALL_STORES),
-        1 => Call::Format(13, 1, ALL_STORES),
-        2 => Call::Format(4, 17, ALL_STORES),
-        _ => Call::Format(12, 4096, ALL_STORES),
+fn refused_format(roll: u64) -> Change {
+    let (max_depth, segments) = match roll % 4 {
+        0 => (1, 1),
+        1 => (13, 1),
+        2 => (4, 17),
+        _ => (12, 4096),
+    };
+    Change::Format {
+        max_depth,
+        segments,
     }
 }
 
-// The call of a step on an index, by a random number. Half are puts that all their stores are allowed, one
+// The call of a step on an array, by a random number. Half are puts that all their stores are allowed, one
 // in eight of these a merge instead.
-pub fn call_for(words: &Cells, table: &Cells, roll: u64) -> Call {
-    let key = word_at(table, entry_for(roll));
+pub fn call_for(words: &[u64], table: &Table, roll: u64) -> Call {
+    let key = table[entry_for(roll)].key;
     let value = roll / 1024;
     match roll % 16 {
-        0..=6 => Call::Put(key, value, ALL_STORES),
-        7 => Call::Merge(key, ALL_STORES),
-        8 | 9 => Call::Remove(key, remove_allowance(roll)),
+        0..=6 => Change::Put { key, value }.whole(),
+        7 => Change::Merge { key }.whole(),
+        8 | 9 => Change::Remove { key }.allowed(remove_allowance(roll)),
         10 => reading_call(words, key, value),
-        11 => Call::List(room_for(size_of(table), value)),
-        12 => Call::Mend((value % 2) as u32),
-        13 => refused_format(value),
-        14 => Call::Put(key, value, (value % 128) as u32),
-        _ => Call::Merge(key, (value % 8) as u32),
+        11 => Call::List {
+            room: room_for(size_of(table), value),
+        },
+        12 => Change::Mend.allowed((value % 2) as u32),
+        13 => refused_format(value).whole(),
+        14 => Change::Put { key, value }.allowed((value % 128) as u32),
+        _ => Change::Merge { key }.allowed((value % 8) as u32),
     }
 }
 
 // Whether a call that made this many stores is to be cut everywhere: a put that splits and one in eight
 // others, and every merge that makes stores.
-pub fn is_to_cut(call: Call, stores: u32) -> bool {
-    match call {
-        Call::Put(_, value, _) => 2 < stores || value % 8 == 0,
+pub fn is_to_cut(change: Change, stores: u32) -> bool {
+    match change {
+        Change::Put { value, .. } => 2 < stores || value % 8 == 0,
         _ => 0 < stores,
     }
 }
 
 // The allowance of the mends behind a call that was cut.
-pub fn mend_allowance(call: Call) -> u32 {
-    match call {
-        Call::Put(_, value, _) => (value % 2) as u32,
-        Call::Merge(_, allowance) => allowance % 2,
+pub fn mend_allowance(change: Change, allowance: u32) -> u32 {
+    match change {
+        Change::Put { value, .. } => (value % 2) as u32,
+        Change::Merge { .. } => allowance % 2,
         _ => 0,
     }
 }

@@ -1,5 +1,6 @@
-// The settings of the long runs, by their numbers.
+// The settings of long runs.
 use test_array::array::power;
+use test_model::Change;
 
 // The runs at each depth.
 const RUNS_PER_DEPTH: u32 = 32;
@@ -10,6 +11,16 @@ pub struct Setting {
     pub max_depth: u32,
     pub segments: u32,
     pub seed: u64,
+}
+
+impl Setting {
+    // The format that a run begins with.
+    pub fn format(self) -> Change {
+        Change::Format {
+            max_depth: u64::from(self.max_depth),
+            segments: u64::from(self.segments),
+        }
+    }
 }
 
 // The segments of a run: all that its depth allows, three quarters, half, or a few.

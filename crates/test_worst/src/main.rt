@@ -7,16 +7,12 @@
 #![tactic(auto)]
 
 use std::io;
-use std::io::{BufWriter, Write};
 use test_array::array::power;
-use test_array::outcomes::{DONE, SHORT_LIST};
+use test_array::outcomes::{Outcome, Refusal, Reply};
 use test_array::route::unfolded;
-use test_array::words::CELLS;
-use test_compare::arrays::{ARRAYS, Arrays, INDEX, MODEL, SAVED, TALLY};
-use test_compare::compare::compare;
-use test_compare::report::write_table;
-use test_compare::tally::{begin_case, expect};
-use test_model::{ALL_STORES, Call, with_allowance};
+use test_compare::arrays::Arrays;
+use test_compare::family::run_family;
+use test_model::{Call, Change};
 
 // The words for D = 12, S = 13.
 const WORST_WORDS: usize = 9856;
@@ -46,55 +42,64 @@ const BLOCK_WORDS: usize = 128;
 // The index of the block of the sixty-four keys behind the put: the last of the directory.
 const MET_INDEX: u64 = 4095;
 
-// The allowances that are run around a border: ten below it, itself, and ten above.
-const AROUND: u32 = 21;
-
+// How far the allowances that are run around a border are from it.
 const REACH: u32 = 10;
 
 // The put with the most stores.
-fn worst_put() -> Call {
-    Call::Put(unfolded(WORST_FOLDED), 1, ALL_STORES)
+fn worst_put() -> Change {
+    Change::Put {
+        key: unfolded(WORST_FOLDED),
+        value: 1,
+    }
 }
 
 // The merge of the block that the sixty-four keys are in.
-fn merge_met() -> Call {
-    Call::Merge(unfolded(MET_FOLDED), ALL_STORES)
+fn merge_met() -> Change {
+    Change::Merge {
+        key: unfolded(MET_FOLDED),
+    }
 }
 
 // Puts the sixty-four keys; a key's value is its folded key and `added`.
 fn fill_segment(arrays: &mut Arrays, added: u64) {
     for i in 0..64 {
         let folded = i / 16 * 65536 + MET_FOLDED + i % 16;
-        let value = folded.wrapping_add(added);
-        compare(arrays, Call::Put(unfolded(folded), value, ALL_STORES));
+        let put = Change::Put {
+            key: unfolded(folded),
+            value: folded.wrapping_add(added),
+        };
+        arrays.compare(put.whole());
     }
 }
 
 // The saved arrays, as a case of their own.
 fn restore(arrays: &mut Arrays) {
-    begin_case(arrays, WORST_WORDS);
-    arrays[INDEX] = arrays[SAVED];
-    arrays[MODEL] = arrays[SAVED];
+    arrays.begin_case(WORST_WORDS);
+    arrays.restore();
+}
+
+// Looks up the key of this folded key.
+fn look_up(arrays: &mut Arrays, folded: u64) {
+    arrays.compare(Call::Get {
+        key: unfolded(folded),
+    });
 }
 
 // A call with one allowance, lookups of the put's key and of one that it meets, a mend cut at once and a
 // whole one.
-fn cut_worst(arrays: &mut Arrays, call: Call, allowance: u32) {
+fn cut_worst(arrays: &mut Arrays, change: Change, allowance: u32) {
     restore(arrays);
-    compare(arrays, with_allowance(call, allowance));
-    compare(arrays, Call::Get(unfolded(WORST_FOLDED)));
-    compare(arrays, Call::Get(unfolded(MET_FOLDED)));
-    compare(arrays, Call::Mend(0));
-    compare(arrays, Call::Mend(ALL_STORES));
+    arrays.compare(change.allowed(allowance));
+    look_up(arrays, WORST_FOLDED);
+    look_up(arrays, MET_FOLDED);
+    arrays.compare(Change::Mend.allowed(0));
+    arrays.compare(Change::Mend.whole());
 }
 
-// A call with every allowance around a border.
-fn cut_around(arrays: &mut Arrays, call: Call, border: u32) {
-    for offset in 0..AROUND {
-        let allowance = border.wrapping_add(offset);
-        if REACH <= allowance {
-            cut_worst(arrays, call, allowance - REACH);
-        }
+// A call with every allowance around a border: up to ten below it, itself, and ten above.
+fn cut_around(arrays: &mut Arrays, change: Change, border: u32) {
+    for allowance in border.saturating_sub(REACH)..=border.saturating_add(REACH) {
+        cut_worst(arrays, change, allowance);
     }
 }
 
@@ -116,45 +121,69 @@ fn cut_splits(arrays: &mut Arrays) {
     for split in 0..SPLITS {
         due = cut_split(arrays, split, due);
     }
-    expect(arrays, due.wrapping_add(2) == WORST_PUT_STORES);
+    arrays.expect(due.wrapping_add(2) == WORST_PUT_STORES);
 }
 
 // A whole call, with its number of stores.
-fn expect_stores(arrays: &mut Arrays, call: Call, stores: u32) {
-    let seen = compare(arrays, call);
-    expect(arrays, seen.reply == DONE && seen.stores == stores);
+fn expect_stores(arrays: &mut Arrays, change: Change, stores: u32) {
+    let seen = arrays.compare(change.whole());
+    let due = Outcome {
+        reply: Ok(Reply::Done),
+        stores,
+    };
+    arrays.expect(seen == due);
+}
+
+// Lists the block at an index into this many words, and answers the reply.
+fn list_block(arrays: &mut Arrays, index: u64, room: usize) -> Result<Reply, Refusal> {
+    arrays.compare(Call::ListBlock { index, room }).reply
 }
 
 // A list of the last block, of which every slot is live: 128 words are enough, one less is not.
 fn list_largest(arrays: &mut Arrays, index: u64) {
-    let short = compare(arrays, Call::ListBlock(index, BLOCK_WORDS - 1));
-    expect(arrays, short.reply == SHORT_LIST);
-    let seen = compare(arrays, Call::ListBlock(index, BLOCK_WORDS));
-    expect(arrays, seen.reply == DONE && seen.value == BLOCK_RECORDS);
-    expect(arrays, seen.next == 0);
+    let short = list_block(arrays, index, BLOCK_WORDS - 1);
+    arrays.expect(short == Err(Refusal::ShortList));
+    let seen = list_block(arrays, index, BLOCK_WORDS);
+    let due = Reply::Listed {
+        records: BLOCK_RECORDS,
+        next: None,
+    };
+    arrays.expect(seen == Ok(due));
 }
 
 // Lists of the thirteen blocks behind the put, each at the index that the one before says. Those before the
 // last have the put's record alone.
 fn list_blocks(arrays: &mut Arrays) {
     let mut index: u64 = 0;
-    let mut records: u64 = 0;
+    let mut listed: u64 = 0;
     for _ in 0..SPLITS {
-        let seen = compare(arrays, Call::ListBlock(index, BLOCK_WORDS));
-        index = seen.next;
-        records = records.wrapping_add(seen.value);
+        let seen = list_block(arrays, index, BLOCK_WORDS);
+        if let Ok(
+            Reply::Listed {
+                records,
+                next: Some(next),
+            },
+        ) = seen
+        {
+            index = next;
+            listed = listed.wrapping_add(records);
+        }
     }
-    expect(arrays, index == MET_INDEX && records == 1);
+    arrays.expect(index == MET_INDEX && listed == 1);
     list_largest(arrays, index);
 }
 
 // The segment filled and saved, the whole put, and then the cut ones.
 fn test_put(arrays: &mut Arrays) {
-    begin_case(arrays, WORST_WORDS);
-    compare(arrays, Call::Format(12, 13, ALL_STORES));
+    arrays.begin_case(WORST_WORDS);
+    let format = Change::Format {
+        max_depth: 12,
+        segments: 13,
+    };
+    arrays.compare(format.whole());
     fill_segment(arrays, 1);
     list_largest(arrays, 0);
-    arrays[SAVED] = arrays[INDEX];
+    arrays.save();
     expect_stores(arrays, worst_put(), WORST_PUT_STORES);
     cut_splits(arrays);
 }
@@ -170,11 +199,11 @@ fn join_blocks(arrays: &mut Arrays) {
 // The two blocks of depth 1 saved, the whole merge, and then the cut ones: before its records, behind them
 // and behind the entries.
 fn cut_merges(arrays: &mut Arrays) {
-    arrays[SAVED] = arrays[INDEX];
+    arrays.save();
     expect_stores(arrays, merge_met(), WORST_MERGE_STORES);
-    cut_around(arrays, merge_met(), 0);
-    cut_around(arrays, merge_met(), COPY_STORES);
-    cut_around(arrays, merge_met(), WORST_MERGE_STORES);
+    for border in [0, COPY_STORES, WORST_MERGE_STORES] {
+        cut_around(arrays, merge_met(), border);
+    }
 }
 
 // The whole put on the arrays saved before it, the blocks listed, its key taken away, and the merges. Before
@@ -184,18 +213,21 @@ fn test_merge(arrays: &mut Arrays) {
     restore(arrays);
     expect_stores(arrays, worst_put(), WORST_PUT_STORES);
     list_blocks(arrays);
-    expect_stores(arrays, Call::Remove(unfolded(WORST_FOLDED), ALL_STORES), 1);
+    let remove = Change::Remove {
+        key: unfolded(WORST_FOLDED),
+    };
+    expect_stores(arrays, remove, 1);
     join_blocks(arrays);
     fill_segment(arrays, 2);
     cut_merges(arrays);
 }
 
-// The family, then its table.
+// The put, then the merge.
+fn test_worst(arrays: &mut Arrays) {
+    test_put(arrays);
+    test_merge(arrays);
+}
+
 fn main(rt: HostRuntime) -> io::Result<()> {
-    let mut arrays = [[0u64; CELLS]; ARRAYS];
-    test_put(&mut arrays);
-    test_merge(&mut arrays);
-    let mut out = BufWriter::new(rt.alloc(), io::writer(&rt))?;
-    write_table(&mut out, &arrays[TALLY], b"4 most stores ")?;
-    out.flush()
+    run_family(&rt, "4 most stores", test_worst)
 }

@@ -1,0 +1,19 @@
+// A test program: a family of cases, and then its table.
+use crate::arrays::Arrays;
+use std::io;
+use std::io::{BufWriter, Write};
+
+// Runs a family on arrays of 0, and writes its table.
+pub fn run_family<R: Print + Alloc, F: FnOnce(&mut Arrays)>(
+    rt: &R,
+    family: &str,
+    run: F,
+) -> io::Result<()>
+    requires { F.IsAlwaysCallable run }
+{
+    let mut arrays = Arrays::new();
+    run(&mut arrays);
+    let mut out = BufWriter::new(rt.alloc(), io::writer(rt))?;
+    arrays.tally.write(&mut out, family)?;
+    out.flush()
+}
