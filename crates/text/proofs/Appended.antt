@@ -1,7 +1,7 @@
 -- Texts written to an output one behind the other.
-use Rattle.std.proofs.Common.{◌≡◌, ℕ, ◌+◌, ◌≤◌, List, ◌++◌, length, ap, ◌∙◌, arith, length-append, length-drop}
+use Rattle.std.proofs.Common.{◌≡◌, ℕ, ◌+◌, ◌≤◌, List, [], ◌++◌, length, refl, ap, ◌∙◌, arith, length-append, length-drop}
 use lib.Seq.{length-take-le}
-use Rattle.stores.proofs.Written.{written_append}
+use Rattle.stores.proofs.Written.{written_none, written_append}
 use Rattle.stores.specs.Written.{Written}
 use Rattle.text.specs.declared.output.Output.{Output}
 use Rattle.text.specs.Output.{HasRoom, Appended}
@@ -40,3 +40,7 @@ module _ (vs ws : List ℕ) (o p : Output) (fits : HasRoom (vs ++ ws) o) (first 
         text = written_append vs ws _ _ _ _ _ _ (omega (arith, fits_first vs ws o fits)) first.text second.text;
         same_buffer = second.same_buffer ∙ first.same_buffer;
       }
+
+-- Nothing written.
+pub appended_none : (o : Output) → Appended [] o o
+appended_none o = record { text = written_none o.written o.bytes.now; same_buffer = refl }

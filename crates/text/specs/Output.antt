@@ -3,9 +3,13 @@ use Rattle.std.specs.Prelude.{ℕ, ◌+◌, ◌≤◌, ◌≡◌, List, length}
 use Rattle.stores.specs.Written.{Written}
 use Rattle.text.specs.declared.output.Output.{Output}
 
+-- So many bytes are left behind what has been written.
+abbrev pub HasSpace : (bytes : ℕ) → Output → Type 0
+HasSpace bytes o = o.written + bytes ≤ length o.bytes.now
+
 -- The words fit behind what has been written.
 abbrev pub HasRoom : (words : List ℕ) → Output → Type 0
-HasRoom words o = o.written + length words ≤ length o.bytes.now
+HasRoom words o = HasSpace (length words) o
 
 -- The words have been written behind what had been, all else in the buffer is as it was, and it is the same buffer.
 pub record Appended (words : List ℕ) (before after : Output) : Type 0 where
