@@ -6,9 +6,11 @@ use mathlib.Core.Option.{none, some}
 use Prim.Native.Nat.{ℕ, ◌+◌, ◌^◌, ◌≤◌, ◌<◌}
 use native.Mathlib.Numerals.{add-one}
 use native.Mathlib.Omega.{arith}
-use borrow.Author.Tests.{lt-ltb, le-ltb, ltb-true, eqb-true, ne_eqb}
+use borrow.Author.Tests.{lt-ltb, le-ltb, ltb-true, ltb-false, eqb-true, ne_eqb}
 use lib.Dec.{eqb, ltb}
+use Rattle.std.specs.Bool.{then_some}
 use Rattle.stores.specs.Lists.{any_below}
+use Rattle.stores.specs.Options.{option_of}
 use Rattle.stores.proofs.Numbers.{first_same_below, first_nowhere, first_at}
 use Rattle.stores.proofs.Tests.{by_test}
 use Rattle.index_rules.specs.Layout.{depth, segments, entry_at, segment_of}
@@ -77,13 +79,17 @@ module _ (a : List ℕ) where
 -- ---- The answer
 
 module _ {noted : List ℕ} {r : ℕ} (m : SmallestMissing r noted) (S : ℕ) where
-  pub free_there : r < S → some r ≡ free_in noted S
+  free_there : r < S → some r ≡ free_in noted S
   unfolding free_in
   free_there h = sym (first_at (λ s. not (holds noted s)) S r h (λ s k. ap not (m.below_held s k)) (ap not m.missing))
 
-  pub free_nowhere : S ≤ r → none ≡ free_in noted S
+  free_nowhere : S ≤ r → none ≡ free_in noted S
   unfolding free_in
   free_nowhere h = sym (first_nowhere (λ s. not (holds noted s)) S (λ s k. ap not (m.below_held s (omega arith))))
+
+  pub free_answer : option_of (then_some (ltb r S) r) ≡ free_in noted S
+  free_answer =
+      by_test (ltb r S) (λ t. rw t (free_there (ltb-true r S t))) (λ t. rw t (free_nowhere (ltb-false r S t)))
 
 -- The answer from what the pass notes is the smallest segment that no entry names.
 pub free_named : {noted a : List ℕ} (S : ℕ) → HoldsNamed noted a → segments a ≡ S → free_in noted S ≡ free_segment a
