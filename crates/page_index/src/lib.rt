@@ -9,7 +9,7 @@ ghost use Rattle.index_rules.specs.declared.Call.TheVariants.{Format, Get, Put, 
 ghost use Rattle.replies.specs.Replies.{said_by};
 ghost use Rattle.index_rules.specs.Listing.{list as listing};
 ghost use Rattle.index_rules.specs.Step.{outcome_of};
-ghost use Rattle.page_index.specs.Told.{Tells, Told, ToldWriting, ToldBlock, next_said};
+ghost use Rattle.page_index.specs.Told.{Tells, Told, ToldWriting, ToldBlock};
 
 use replies::{Answer, Reply};
 
