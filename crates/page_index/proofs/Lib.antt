@@ -1,4 +1,4 @@
--- From the promise of a call to what is told of it.
+-- What is told of calls.
 pub mod Tellings
 pub mod FullStates
 pub mod Performs

@@ -9,9 +9,9 @@ ghost use Rattle.index_rules.specs.declared.Call.TheVariants.{Format, Get, Put, 
 ghost use Rattle.replies.specs.Replies.{said_by};
 ghost use Rattle.index_rules.specs.Listing.{list as listing};
 ghost use Rattle.index_rules.specs.Step.{outcome_of};
-ghost use Rattle.page_index.specs.Told.{Tells, Told, ToldWriting, ToldBlock, next_said};
+ghost use Rattle.page_index.specs.Told.{Tells, Told, ToldWriting, ToldBlock};
 
-use replies::{Answer, Following, Reply, refusal_number};
+use replies::{Answer, Reply};
 
 // The code of the reply absent; done is 0, a refusal has its number.
 const ABSENT: u32 = 255;
@@ -26,37 +26,22 @@ pub struct PageIndexReply {
 }
 
 // An answer in three numbers.
-pub(crate) fn told(answer: Answer) -> PageIndexReply
-    ensures { Tells (said_by answer.reply) answer.stores result }
-{
-    let stores = answer.stores;
-    let reply = answer.reply;
-    match reply {
-        Reply::Done => PageIndexReply {
-            code: 0,
-            stores,
-            value: 0,
-        },
-        Reply::Value(found) => PageIndexReply {
-            code: 0,
-            stores,
-            value: found,
-        },
-        Reply::Listed(count, _) => PageIndexReply {
-            code: 0,
-            stores,
-            value: count,
-        },
-        Reply::Absent => PageIndexReply {
-            code: ABSENT,
-            stores,
-            value: 0,
-        },
-        Reply::Refused(refusal) => PageIndexReply {
-            code: refusal_number(refusal),
-            stores,
-            value: 0,
-        },
+impl From<Answer> for PageIndexReply {
+    ghost from_gives = { λ answer told. Tells (said_by answer.reply) answer.stores told };
+
+    fn from(answer: Answer) -> PageIndexReply {
+        let (code, value) = match answer.reply {
+            Ok(Reply::Done) => (0, 0),
+            Ok(Reply::Value(found)) => (0, found),
+            Ok(Reply::Listed(count, _)) => (0, count),
+            Ok(Reply::Absent) => (ABSENT, 0),
+            Err(refusal) => (u32::from(refusal), 0),
+        };
+        PageIndexReply {
+            code,
+            stores: answer.stores,
+            value,
+        }
     }
 }
 
@@ -70,7 +55,7 @@ pub extern "C" fn page_index_format(
 ) -> PageIndexReply
     ensures { Told (outcome_of words.old (Format depth segments allowance)) result words.new }
 {
-    told(index::format(words, depth, segments, allowance))
+    index::format(words, depth, segments, allowance).into()
 }
 
 // Get.
@@ -78,7 +63,7 @@ pub extern "C" fn page_index_format(
 pub extern "C" fn page_index_get(words: &[u64], key: u64) -> PageIndexReply
     ensures { Told (outcome_of words.now (Get key)) result words.now }
 {
-    told(index::get(words, key))
+    index::get(words, key).into()
 }
 
 // Put.
@@ -91,7 +76,7 @@ pub extern "C" fn page_index_put(
 ) -> PageIndexReply
     ensures { Told (outcome_of words.old (Put key value allowance)) result words.new }
 {
-    told(index::put(words, key, value, allowance))
+    index::put(words, key, value, allowance).into()
 }
 
 // Remove.
@@ -99,7 +84,7 @@ pub extern "C" fn page_index_put(
 pub extern "C" fn page_index_remove(words: &mut [u64], key: u64, allowance: u32) -> PageIndexReply
     ensures { Told (outcome_of words.old (Remove key allowance)) result words.new }
 {
-    told(index::remove(words, key, allowance))
+    index::remove(words, key, allowance).into()
 }
 
 // Merge.
@@ -107,7 +92,7 @@ pub extern "C" fn page_index_remove(words: &mut [u64], key: u64, allowance: u32)
 pub extern "C" fn page_index_merge(words: &mut [u64], key: u64, allowance: u32) -> PageIndexReply
     ensures { Told (outcome_of words.old (Merge key allowance)) result words.new }
 {
-    told(index::merge(words, key, allowance))
+    index::merge(words, key, allowance).into()
 }
 
 // Mend.
@@ -115,7 +100,7 @@ pub extern "C" fn page_index_merge(words: &mut [u64], key: u64, allowance: u32) 
 pub extern "C" fn page_index_mend(words: &mut [u64], allowance: u32) -> PageIndexReply
     ensures { Told (outcome_of words.old (Mend allowance)) result words.new }
 {
-    told(index::mend(words, allowance))
+    index::mend(words, allowance).into()
 }
 
 // List.
@@ -123,21 +108,7 @@ pub extern "C" fn page_index_mend(words: &mut [u64], allowance: u32) -> PageInde
 pub extern "C" fn page_index_list(words: &[u64], list: &mut [u64]) -> PageIndexReply
     ensures { ToldWriting (listing words.now (length list.old)) result list.old list.new }
 {
-    told(index::list(words, list))
-}
-
-// What `*next` becomes behind a reply: the index of the block that follows, or 0 after the last; any other
-// reply leaves what was there before.
-fn next_told(reply: Reply, before: u64) -> u64
-    ensures { result ≡ next_said (said_by reply) before }
-{
-    let Reply::Listed(_, following) = reply else {
-        return before;
-    };
-    match following {
-        Following::Next(index) => index,
-        Following::Last => 0,
-    }
+    index::list(words, list).into()
 }
 
 // List of one block. `next` gets the index of the block that follows, or 0 after the last; a refusal
@@ -152,8 +123,8 @@ pub extern "C" fn page_index_list_block(
     ensures { ToldBlock words.now index result list.old list.new next.old next.new }
 {
     let answer = index::list_block(words, index, list);
-    let reply = answer.reply;
-    let follows = next_told(reply, *next);
-    *next = follows;
-    told(answer)
+    if let Ok(Reply::Listed(_, following)) = answer.reply {
+        *next = following.unwrap_or(0);
+    }
+    answer.into()
 }

@@ -4,7 +4,7 @@ ghost use Rattle.board.specs.Jobs.{set_job, read_job, remove_job};
 ghost use Rattle.board.specs.Print.{print_year};
 ghost use Rattle.page_index.specs.Told.{Told, ToldWriting};
 
-use crate::{PageIndexReply, told};
+use crate::PageIndexReply;
 
 // Sets a job's pages.
 #[unsafe(no_mangle)]
@@ -18,7 +18,7 @@ pub extern "C" fn month_board_set(
 ) -> PageIndexReply
     ensures { Told (set_job words.old year month number pages allowance) result words.new }
 {
-    told(board::set(words, year, month, number, pages, allowance))
+    board::set(words, year, month, number, pages, allowance).into()
 }
 
 // Reads a job's pages.
@@ -31,7 +31,7 @@ pub extern "C" fn month_board_read(
 ) -> PageIndexReply
     ensures { Told (read_job words.now year month number) result words.now }
 {
-    told(board::read(words, year, month, number))
+    board::read(words, year, month, number).into()
 }
 
 // Removes a job.
@@ -45,7 +45,7 @@ pub extern "C" fn month_board_remove(
 ) -> PageIndexReply
     ensures { Told (remove_job words.old year month number allowance) result words.new }
 {
-    told(board::remove(words, year, month, number, allowance))
+    board::remove(words, year, month, number, allowance).into()
 }
 
 // Prints a year's jobs into the buffer.
@@ -53,5 +53,5 @@ pub extern "C" fn month_board_remove(
 pub extern "C" fn month_board_print(words: &[u64], year: u64, buffer: &mut [u8]) -> PageIndexReply
     ensures { ToldWriting (print_year words.now year (length buffer.old)) result buffer.old buffer.new }
 {
-    told(board::print(words, year, buffer))
+    board::print(words, year, buffer).into()
 }

@@ -1,7 +1,0 @@
--- `page_index::month_board::month_board_print` meets its contract.
-use borrow.Author.Rules.{rules}
-use Rattle.page_index.proofs.Tellings.{told_wrote}
-use Rattle.page_index.proofs.month_board.month_board_print.Goals as goal
-
-pub returns : goal.returns
-returns c = search (rules, told_wrote)
