@@ -10,7 +10,7 @@ use lib.ListN.{length}
 use Rattle.stores.specs.Store.{store, word}
 use Rattle.stores.specs.declared.Budget.{Budget}
 use Rattle.stores.specs.Executed.{Executed, begun}
-use Rattle.cells.specs.Cells.{value_at, key_cleared}
+use Rattle.cells.specs.Cells.{value_at}
 use Rattle.replies.specs.declared.Refusal.{Refusal}
 use Rattle.replies.specs.declared.Refusal.TheVariants.{NoStore, Broken, BadShape, TooShort}
 use Rattle.replies.specs.declared.Answer.{Answer}
@@ -18,7 +18,7 @@ use Rattle.index_rules.specs.declared.Call.TheVariants.{Format, Get, Remove, Men
 use Rattle.index_rules.specs.Layout.{valid_shape, valid_header, words_for, depth, segments, key_address, value_address}
 use Rattle.index_rules.specs.Scan.{leaders_valid}
 use Rattle.index_rules.specs.Slots.{hit}
-use Rattle.replies.specs.Replies.{done, absent, refused, refuse, unless, tested, replied}
+use Rattle.replies.specs.Replies.{done, absent, refused, refuse, unless, tested, replied, changed}
 use Rattle.index_rules.specs.Format.{format_tests, format_stores, format}
 use Rattle.index_rules.specs.Get.{get_tests, value_at_hit, get}
 use Rattle.index_rules.specs.Put.{put_tests}
@@ -28,6 +28,7 @@ use Rattle.index_rules.specs.Step.{effect, step, outcome_of}
 use Rattle.replies.specs.Answered.{Answered, AfterStores, Without}
 use Rattle.replies.proofs.Answers.{answered_stores, answered_only, answered_refused}
 use Rattle.index_layout.specs.declared.place.Place.{Place}
+use Rattle.index.specs.Slots.{key_removed}
 use Rattle.index.proofs.Places.{Stands}
 
 -- ---- Format
@@ -82,13 +83,11 @@ module _ (a : List ℕ) (key allowance : ℕ) (r : Answer) where
     unfolding effect step remove remove_tests put_tests tested cleared_at
     remove_absent h k = rw (x.0, ← x.1, x.2.base_is, h) (answered_only allowance absent a r k.0 k.1)
 
-    pub remove_done : (j : ℕ) → hit a p.base p.key ≡ some j → (y : Budget) (after : List ℕ)
-        → Executed (key_cleared p.base j) (begun allowance) a y after → AfterStores r (done []) y
+    pub remove_done : (j : ℕ) → hit a p.base p.key ≡ some j → (after : List ℕ)
+        → Answered (changed allowance (key_removed p j) a) r after
         → Answered (outcome_of a (Remove key allowance)) r after
     unfolding effect step remove remove_tests put_tests tested cleared_at
-    remove_done j h y after e k =
-        rw (x.0, ← x.1, x.2.base_is, h)
-        (answered_stores allowance (record { due = store (key_address p.base j) 0 ∷ []; reply = done [] }) a r y after e k)
+    remove_done j h after k = rw (x.0, ← x.1, x.2.base_is, h) k
 
 -- ---- Mend
 

@@ -17,7 +17,7 @@ ghost use Rattle.index_rules.specs.ListBlock.{list_block};
 ghost use Rattle.index_rules.specs.Step.{outcome_of, Performed};
 ghost use Rattle.index.specs.Blocks.{ListedBy};
 
-use cells::{clear_key, value_at};
+use cells::value_at;
 use index_directory::mend::mend_entries;
 use index_directory::scan::scan;
 use index_layout::header::{read_header, valid_shape, words_for};
@@ -31,7 +31,7 @@ use listing::{
 };
 use place::{place_to_change, place_to_read};
 use replies::{Answer, Refusal, Reply, after_stores, without_store};
-use slot::{choose_at, find_at, put_record, put_value};
+use slot::{choose_at, clear_slot, find_at, put_record, put_value};
 use stores::Budget;
 
 // Format: an empty index of largest depth `depth` (document 01: D) with `segments` segments (S).
@@ -107,9 +107,7 @@ pub fn remove(words: &mut [u64], key: u64, allowance: u32) -> Answer
     let Choice::Found(slot) = choose_at(words, place) else {
         return without_store(Ok(Reply::Absent));
     };
-    let mut budget = Budget::new(allowance);
-    clear_key(words, place.base, slot, &mut budget);
-    after_stores(Reply::Done, budget)
+    clear_slot(words, place, slot, allowance)
 }
 
 // Merge: the key's block and its buddy become one block, one depth shallower, with the left segment; the

@@ -7,9 +7,9 @@ ghost use Rattle.index_layout.specs.Places.{KeyPlace};
 ghost use Rattle.index_segment.specs.Answers.{choice_of};
 ghost use Rattle.stores.specs.Options.{option_of};
 ghost use Rattle.replies.specs.Answered.{Answered};
-ghost use Rattle.index.specs.Slots.{value_put, record_put};
+ghost use Rattle.index.specs.Slots.{value_put, record_put, key_removed};
 
-use cells::{Record, store_record, store_value};
+use cells::{Record, clear_key, store_record, store_value};
 use index_layout::SEGMENT_WORDS;
 use index_layout::key::Block;
 use index_layout::place::Place;
@@ -40,6 +40,7 @@ pub(crate) fn choose_at(words: &[u64], place: Place) -> Choice
 }
 
 // Stores the value at the slot that has the key.
+#[tactic(auto, using(index_layout::proofs::Places::place_bounds))]
 pub(crate) fn put_value(
     words: &mut [u64],
     place: Place,
@@ -56,6 +57,7 @@ pub(crate) fn put_value(
 }
 
 // Stores value, then key, at a usable slot: a cut between the two shows no record with another's value.
+#[tactic(auto, using(index_layout::proofs::Places::place_bounds))]
 pub(crate) fn put_record(
     words: &mut [u64],
     place: Place,
@@ -72,5 +74,16 @@ pub(crate) fn put_record(
     };
     let mut budget = Budget::new(allowance);
     store_record(words, place.base, slot, record, &mut budget);
+    after_stores(Reply::Done, budget)
+}
+
+// Clears the key of the slot that has it.
+#[tactic(auto, using(index_layout::proofs::Places::place_bounds))]
+pub(crate) fn clear_slot(words: &mut [u64], place: Place, slot: usize, allowance: u32) -> Answer
+    requires { (slot < 64) × KeyPlace place words.old }
+    ensures { Answered (changed allowance (key_removed place slot) words.old) result words.new }
+{
+    let mut budget = Budget::new(allowance);
+    clear_key(words, place.base, slot, &mut budget);
     after_stores(Reply::Done, budget)
 }

@@ -16,11 +16,10 @@ returns-in_default c =
     remove_absent _ _ _ _ _ x (not_chosen x.2 c.choose_at.result c.choose_at.ensures c.in_default.not-Found)
     (ap said_by c.without_store-in_default.ensures.0, c.without_store-in_default.ensures.1)
 
-pub clear_key-requires : goal.clear_key-requires
-clear_key-requires c =
-    (omega (arith, chosen_inside c.in-Ok.ensures.2 c.in-Found.ensures), omega (arith, begun_due c.new-budget.ensures))
+pub clear_slot-requires : goal.clear_slot-requires
+clear_slot-requires c = let x = c.in-Ok.ensures in ((chosen_inside x.2 c.in-Found.ensures).0, x.2)
 
 pub returns : goal.returns
 returns c =
     let x = c.in-Ok.ensures in
-    remove_done _ _ _ _ _ x _ (chosen_hit x.2 c.in-Found.ensures) _ _ (rw c.new-budget.ensures at c.clear_key.ensures) c.after_stores.ensures
+    remove_done _ _ _ _ _ x _ (chosen_hit x.2 c.in-Found.ensures) _ c.clear_slot.ensures
