@@ -107,7 +107,7 @@ class Reading:
                 return None
             case ["assign", place, value]:
                 return self.assigned(state, place, value)
-            case ["call", ["function", name], operands, place]:
+            case ["call", ["function", name] | [["function", name], *_], operands, place]:
                 return self.called(state, name, listed(operands), place)
             case ["cond", condition, yes, no]:
                 return self.branched(state, condition, statements(yes), statements(no))

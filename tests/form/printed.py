@@ -14,9 +14,10 @@ JOBS = int(os.environ.get("RT_JOBS") or min(2, os.cpu_count() or 1))
 
 
 def is_lent_words(function):
-    """Whether a function is lent words to be written, and an allowance, by itself or in a call given as data."""
+    """Whether a function is lent words to be written, and an allowance or a budget, by itself or in a call given as data."""
     taken = dict(function.parameters)
-    return "&mut [u64]" in taken.values() and ("allowance" in taken or "Call" in taken.values())
+    kinds = set(taken.values())
+    return "&mut [u64]" in kinds and ("allowance" in taken or bool(kinds & {"&mut Budget", "Call"}))
 
 
 def kit():

@@ -91,14 +91,17 @@ class Tokens:
                 return self.slice(begin + 1, self.at - 1)
 
     def listed(self):
-        """The parts within the brackets that begin here, which commas divide."""
+        """The parts within the brackets that begin here, which commas divide, but for those between `<` and `>`."""
         begin = self.at
         self.brackets()
         end, self.at, parts = self.at, begin + 1, []
         while self.at < end - 1:
-            start = self.at
-            while self.at < end - 1 and not self.sees(","):
-                self.brackets() if self.sees(*CLOSING) else self.next()
+            start, types = self.at, 0
+            while self.at < end - 1 and (types > 0 or not self.sees(",")):
+                if self.sees(*CLOSING):
+                    self.brackets()
+                else:
+                    types += {"<": 1, ">": -1, ">>": -2}.get(self.next(), 0)
             parts.append(self.slice(start, self.at))
             self.takes(",")
         self.at = end
