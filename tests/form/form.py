@@ -9,10 +9,12 @@ from mir import arms, is_words, lines, listed, named_type, shown, statements, va
 from tokens import NotUnderstood
 
 STORE = "stores::store_word"
-END = "index::answer::after_stores"
+END = "replies::after_stores"
 # Calls itself behind a split, with the allowance that is left.
 RESUMES = "index::put"
 PERFORM = "index::perform"
+# The number of a Result's variant Err.
+ERR = 1
 
 # The functions that are read by their whole form. Whoever changes one reads it again: that the allowance decides here about
 # this one store alone, and there about the reply alone.
@@ -36,12 +38,13 @@ return
 _4 = (lt unsigned) _2 _3
 if _4
     _5 = {6}
-    _6 = {4, _5}
+    _6 = {1, _5}
     _0 = {_6, _2}
     return
 else
     skip
-_0 = {_1, _3}
+_7 = {0, _1}
+_0 = {_7, _3}
 return
 """,
 }
@@ -82,7 +85,7 @@ class Reading:
                 return None
             case ["assign", place, value]:
                 return self.assigned(state, place, value)
-            case ["call", ["function", name], operands, place]:
+            case ["call", ["function", name], operands, place] | ["call", [["function", name], *_], operands, place]:  # generic: at its types
                 return self.called(state, name, listed(operands), place)
             case ["cond", condition, yes, no]:
                 return self.branched(state, condition, statements(yes), statements(no))
@@ -307,7 +310,9 @@ class Reading:
             return self.noted(replace(state, stands=ENDED, holders=frozenset()), target, ANSWER)
         for kind in kinds:
             self.harmless(state, kind, f"is handed to {name}")
-        return state if projections else self.noted(state, target, PLAIN)
+        # A `?` that leaves answers an Err, in which no count is.
+        answer = Tagged(ERR, None) if name.endswith("::from_residual") else PLAIN
+        return state if projections else self.noted(state, target, answer)
 
     def is_count(self, state, operand, kind):
         """Whether an operand is the count as it is now."""

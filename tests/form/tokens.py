@@ -91,13 +91,14 @@ class Tokens:
                 return self.slice(begin + 1, self.at - 1)
 
     def listed(self):
-        """The parts within the brackets that begin here, which commas divide."""
+        """The parts within the brackets that begin here, which commas divide outside of brackets and of a type's arguments."""
         begin = self.at
         self.brackets()
         end, self.at, parts = self.at, begin + 1, []
         while self.at < end - 1:
-            start = self.at
-            while self.at < end - 1 and not self.sees(","):
+            start, inside = self.at, 0
+            while self.at < end - 1 and (inside or not self.sees(",")):
+                inside += {"<": 1, ">": -1, ">>": -2}.get(self.now(), 0)
                 self.brackets() if self.sees(*CLOSING) else self.next()
             parts.append(self.slice(start, self.at))
             self.takes(",")
