@@ -24,6 +24,7 @@ pub fn double(words: &mut [u64], header: Header, allowance: u32, due: u32) -> u3
 {
     let count = pow2(header.depth);
     let mut due = due;
+    // By index: a turn stores into the array that it reads.
     for e in 0..2 * count {
         due = double_entry(words, count, e, allowance, due);
     }

@@ -6,7 +6,8 @@ ghost use Rattle.index_directory.specs.Buddies.{joining_of, Joinable};
 use index_layout::entry::{block_width, pack_entry};
 use index_layout::header::pow2;
 
-// A block of the directory of this depth: its local depth, its first index and its segment.
+// A block of the directory of this depth: its local depth, its first index and its segment. Without it the
+// function below would take seven parameters.
 #[derive(Clone, Copy)]
 pub struct JoinedBlock {
     pub depth: u32,
@@ -25,6 +26,7 @@ pub fn join_entries(words: &mut [u64], block: JoinedBlock, allowance: u32, due: 
     let count = block_width(block.depth, block.local_depth);
     let entry = pack_entry(block.segment, block.local_depth);
     let mut due = due;
+    // By index: a store takes its address.
     for t in 0..count {
         due = stores::store_word(words, first + t, entry, allowance, due);
     }

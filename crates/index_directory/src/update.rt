@@ -19,6 +19,7 @@ fn fill_entries(
     ensures { Executed (filling first count entry) allowance due words.old result words.new }
 {
     let mut due = due;
+    // By index: a store takes its address.
     for t in 0..count {
         let from_right = count - 1 - t;
         due = stores::store_word(words, first + from_right, entry, allowance, due);
@@ -27,7 +28,7 @@ fn fill_entries(
 }
 
 // A block of the directory of this depth, with its local depth and its first index, and the segments
-// of its left half and of its right half.
+// of its left half and of its right half. Without it the update would take eight parameters.
 #[derive(Clone, Copy)]
 pub struct Halves {
     pub depth: u32,

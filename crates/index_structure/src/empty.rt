@@ -14,6 +14,7 @@ fn clear_keys(words: &mut [u64], base: usize, allowance: u32, due: u32) -> u32
     ensures { Executed (clearing base) allowance due words.old result words.new }
 {
     let mut due = due;
+    // By index: a store takes its address.
     for slot in 0..SLOTS {
         due = store_word(words, base + 2 * slot, 0, allowance, due);
     }

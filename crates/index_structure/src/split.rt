@@ -18,7 +18,7 @@ use index_segment::copy::copy_records;
 use replies::Refusal;
 
 // Steps 3 and 4 of a split: the key's place, the directory's depth behind any doubling, and the new
-// segment.
+// segment. Without it `halve` would take seven parameters.
 #[derive(Clone, Copy)]
 pub struct Halving {
     pub place: Place,
