@@ -13,6 +13,8 @@ END = "replies::after_stores"
 # Calls itself behind a split, with the allowance that is left.
 RESUMES = "index::put"
 PERFORM = "index::perform"
+# The number of a Result's variant Err.
+ERR = 1
 
 # The functions that are read by their whole form. Whoever changes one reads it again: that the allowance decides in the one about this
 # one store alone, and in the others about the reply alone.
@@ -332,7 +334,9 @@ class Reading:
             return self.storing(state, name, kinds, target)
         for kind in kinds:
             self.harmless(state, kind, f"is handed to {name}")
-        return state if projections else self.noted(state, target, PLAIN)
+        # A `?` that leaves answers an Err, in which no budget is.
+        answer = Tagged(ERR, None) if name.endswith("::from_residual") else PLAIN
+        return state if projections else self.noted(state, target, answer)
 
     def begun(self, state, kinds, target):
         """A budget begins: one for a call, with the call's own allowance."""

@@ -134,6 +134,7 @@ pub fn mend(words: &mut [u64], allowance: u32) -> Answer
         Ok(header) => header,
         Err(refusal) => return without_store(Err(refusal)),
     };
+    // One pattern in another was tried: the check keeps no fact where it does not fit.
     if let Err(refusal) = scan(words, header) {
         if let Refusal::Broken = refusal {
             return without_store(Err(refusal));

@@ -9,7 +9,7 @@ use index_layout::header::pow2;
 use index_layout::key::directory_index;
 use index_layout::place::Place;
 
-// Where the halves of a block begin.
+// Where the halves of a block begin: found once, and read for the index of the buddy and for the pair.
 #[derive(Clone, Copy)]
 pub struct Starts {
     pub left: usize,

@@ -24,6 +24,7 @@ pub fn double(words: &mut [u64], header: Header, budget: &mut Budget)
     ensures { Executed (doubling words.old) budget.old words.old budget.new words.new }
 {
     let count = pow2(header.depth);
+    // By index: a turn stores into the array that it reads.
     for e in 0..2 * count {
         double_entry(words, count, e, budget);
     }

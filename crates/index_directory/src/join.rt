@@ -7,7 +7,8 @@ use index_layout::entry::{block_width, pack_entry};
 use index_layout::header::pow2;
 use stores::Budget;
 
-// A block of the directory of this depth: its local depth, its first index and its segment.
+// A block of the directory of this depth: its local depth, its first index and its segment. Without it the
+// function below would take seven parameters.
 #[derive(Clone, Copy)]
 pub struct JoinedBlock {
     pub depth: u32,
@@ -25,6 +26,7 @@ pub fn join_entries(words: &mut [u64], block: JoinedBlock, budget: &mut Budget)
     let first = pow2(block.depth) + block.start;
     let count = block_width(block.depth, block.local_depth);
     let entry = pack_entry(block.segment, block.local_depth);
+    // By index: a store takes its address.
     for t in 0..count {
         budget.store(words, first + t, entry);
     }

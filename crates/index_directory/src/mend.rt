@@ -45,6 +45,7 @@ pub fn mend_entries(words: &mut [u64], header: Header, budget: &mut Budget)
 {
     let count = pow2(header.depth);
     let mut block = LedBlock { leading: 0, end: 0 };
+    // By index: a turn stores into the array that it reads.
     for i in 0..count {
         let at = count + i;
         block = next_block(block, words[at], i, header.depth);

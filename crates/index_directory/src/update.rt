@@ -12,6 +12,7 @@ fn fill_entries(words: &mut [u64], first: usize, count: usize, entry: u64, budge
     requires { (first + count ≤ length words.old) × (budget.old.due + count < 2 ^ 32) }
     ensures { Executed (filling first count entry) budget.old words.old budget.new words.new }
 {
+    // By index: a store takes its address.
     for t in 0..count {
         let from_right = count - 1 - t;
         budget.store(words, first + from_right, entry);
@@ -19,7 +20,7 @@ fn fill_entries(words: &mut [u64], first: usize, count: usize, entry: u64, budge
 }
 
 // A block of the directory of this depth, with its local depth and its first index, and the segments
-// of its left half and of its right half.
+// of its left half and of its right half. Without it the update would take eight parameters.
 #[derive(Clone, Copy)]
 pub struct Halves {
     pub depth: u32,

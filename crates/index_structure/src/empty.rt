@@ -14,6 +14,7 @@ fn clear_keys(words: &mut [u64], base: usize, budget: &mut Budget)
     requires { (base + 128 ≤ length words.old) × (budget.old.due ≤ due_limit) }
     ensures { Executed (clearing base) budget.old words.old budget.new words.new }
 {
+    // By index: a store takes its address.
     for slot in 0..SLOTS {
         clear_key(words, base, slot, budget);
     }

@@ -19,7 +19,7 @@ use replies::Refusal;
 use stores::Budget;
 
 // Steps 3 and 4 of a split: the key's place, the directory's depth behind any doubling, and the new
-// segment.
+// segment. Without it `halve` would take seven parameters.
 #[derive(Clone, Copy)]
 pub struct Halving {
     pub place: Place,
