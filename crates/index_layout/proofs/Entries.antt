@@ -1,10 +1,10 @@
 -- What the reader of an entry is to say, and where the entries of the present directory stand.
 use mathlib.Core.Path.{◌≡◌, ap, ◌∙◌}
-use mathlib.Core.Bool.{true, false}
 use mathlib.Core.List.{List, [], ◌∷◌}
-use Prim.Native.Nat.{ℕ, suc, ◌+◌, ◌-◌, ◌*◌, ◌/◌, ◌%◌, ◌^◌, ◌≤◌}
+use Prim.Native.Nat.{ℕ, suc, ◌+◌, ◌-◌, ◌*◌, ◌/◌, ◌%◌, ◌^◌, ◌≤◌, ◌<◌}
 use native.Mathlib.Nat.{div-add-mod', mul_comm}
 use native.Mathlib.Omega.{arith}
+use borrow.Author.Tests.{le-leb, lt-leb, lt-ltb, le-ltb}
 use lib.Bits.{bit_and, and_mask}
 use Rattle.stores.specs.Store.{word}
 use Rattle.replies.specs.declared.Refusal.TheVariants.{Broken}
@@ -17,13 +17,22 @@ use Rattle.index_layout.specs.declared.header.Header.{Header}
 use Rattle.index_layout.specs.Headers.{Describes}
 use Rattle.index_layout.specs.Entries.{entry_of}
 
-pub says_in_range : (g S e : ℕ) → in_range g S e ≡ true → done (segment_of e ∷ local_depth e ∷ []) ≡ entry_of g S e
-unfolding entry_of
-says_in_range g S e h = rw h
+-- What is to be said of an entry whose local depth is L and whose segment is s.
+module _ (g S e L : ℕ) (depth_is : L ≡ local_depth e) where
+  -- It is deeper than the directory.
+  pub says_deep : g < L → refuse Broken ≡ entry_of g S e
+  unfolding entry_of in_range
+  says_deep deep = rw (← depth_is, lt-leb L g deep)
 
-pub says_broken : (g S e : ℕ) → in_range g S e ≡ false → refuse Broken ≡ entry_of g S e
-unfolding entry_of
-says_broken g S e h = rw h
+  module _ (s : ℕ) (segment_is : s ≡ segment_of e) (low : L ≤ g) where
+    -- It names no segment of the index.
+    pub says_no_segment : S ≤ s → refuse Broken ≡ entry_of g S e
+    unfolding entry_of in_range
+    says_no_segment past = rw (← depth_is, ← segment_is, le-leb L g low, le-ltb s S past)
+
+    pub says_in_range : s < S → done (s ∷ L ∷ []) ≡ entry_of g S e
+    unfolding entry_of in_range
+    says_in_range below = rw (← depth_is, ← segment_is, le-leb L g low, lt-ltb s S below)
 
 -- The code's addresses of the entries of the present depth and of the next, where `count` is the number of entries.
 module _ {h : Header} {a : List ℕ} (count i : ℕ) (d : Describes h a) (counted : count ≡ 2 ^ h.depth) where

@@ -16,9 +16,6 @@ module _ (a : List ℕ) (j : ℕ) where
   pub key_word : key_at a 0 j ≡ word a (2 * j)
   key_word = ap (word a) (zero-add (2 * j))
 
-  pub value_word_holds : value_at a 0 j ≡ word a (2 * j + 1)
-  value_word_holds = ap (word a) (zero-add (2 * j + 1))
-
 -- ---- Words taken several at a time
 
 -- Chunk j of a list taken w at a time; and a slot's pair of words.

@@ -32,7 +32,7 @@ pub fn some_both_live(left: &[u64], right: &[u64], joined: Block) -> bool
     requires { (length left.now ≡ 128) × (length right.now ≡ 128) }
     ensures { result ≡ both_live left.now 0 right.now 0 joined.local_depth (shared joined) }
 {
-    // No `any`: what it says of a `zip` does not close the proof.
+    // A `for` and no `any`: tried, and what `any` says of a `zip` does not close the proof.
     for (left_slot, right_slot) in slots(left).iter().zip(slots(right)) {
         if both_keys_live(joined, left_slot[0], right_slot[0]) {
             return true;
@@ -72,6 +72,7 @@ pub fn merge_records(
     requires { (length segment.old ≡ 128) × (budget.old.due ≤ due_limit) }
     ensures { Executed (merging_slots left 0 right 0 joined.local_depth (shared joined)) budget.old segment.old budget.new segment.new }
 {
+    // The left slot by its number, and no `zip`: tried, and under `enumerate` no law says which turn it is.
     let left_slots = slots(&left);
     for (slot, [key, value]) in slots(&right).iter().enumerate() {
         let sides = Sides {

@@ -1,6 +1,7 @@
 -- `index_layout::header::read_header` meets its contract.
 use borrow.Author.Tests.{eq-eqb, ne_eqb, le-leb, lt-leb}
 use mathlib.Core.Path.{sym, ◌∙◌}
+use lib.ListN.{length}
 use Rattle.index_rules.specs.Layout.{mark_in, depth_in, max_depth_in, segments_in, valid_header}
 use Rattle.index_layout.proofs.Shapes.{says_valid, says_not_valid, empty_not_valid}
 use Rattle.index_layout.proofs.header.read_header.Goals as goal
@@ -50,5 +51,5 @@ returns c =
       sym c.valid_shape.ensures ∙ c.if-not-valid_shape.false,
       le-leb _ _ c.if-max_depth-depth.false,
       ← c.words_for.ensures,
-      le-leb _ _ c.if-words-words_for.false,
+      le-leb c.words_for.result (length c.args.words.now) c.if-words-words_for.false,
     ))
