@@ -52,6 +52,11 @@ impl Arrays {
         self.model.copy_from_slice(&self.saved);
     }
 
+    // The model's array as saved.
+    pub fn take_saved(&mut self) {
+        self.model.copy_from_slice(&self.saved);
+    }
+
     // Gives the model's array the words of the index's.
     pub fn copy_to_model(&mut self) {
         self.model.copy_from_slice(&self.index);
