@@ -3,12 +3,10 @@ use mathlib.Core.Path.{◌≡◌, refl}
 use mathlib.Core.Bool.{true, false}
 use mathlib.Core.List.{List, [], ◌∷◌}
 use mathlib.Core.Option.{none, some}
-use Prim.Native.Nat.{ℕ, ◌+◌, ◌*◌, ◌≤◌, ◌<◌, min}
+use Prim.Native.Nat.{ℕ, ◌+◌, ◌*◌, ◌≤◌, ◌<◌}
 use native.Mathlib.Omega.{arith}
 use borrow.Author.Tests.{le-leb, lt-leb}
-use lib.Dec.{leb}
 use lib.ListN.{length}
-use Rattle.stores.specs.Lists.{pick}
 use Rattle.stores.specs.Store.{store, word}
 use Rattle.stores.specs.Executed.{Executed}
 use Rattle.replies.specs.declared.Refusal.{Refusal}
@@ -18,29 +16,17 @@ use Rattle.index_rules.specs.declared.Call.TheVariants.{Format, Get, Remove, Men
 use Rattle.index_rules.specs.Layout.{valid_shape, valid_header, words_for, depth, segments, key_address, value_address}
 use Rattle.index_rules.specs.Scan.{leaders_valid}
 use Rattle.index_rules.specs.Slots.{hit}
-use Rattle.replies.specs.Replies.{Said, done, absent, refused, refuse, said_by, unless, tested, replied}
+use Rattle.replies.specs.Replies.{done, absent, refused, refuse, unless, tested, replied}
 use Rattle.index_rules.specs.Format.{format_tests, format_stores, format}
 use Rattle.index_rules.specs.Get.{get_tests, value_at_hit, get}
-use Rattle.index_rules.specs.Put.{directory_tests, put_tests}
+use Rattle.index_rules.specs.Put.{put_tests}
 use Rattle.index_rules.specs.Remove.{remove_tests, cleared_at, remove}
 use Rattle.index_rules.specs.Mend.{mend_tests, mending, mend}
 use Rattle.index_rules.specs.Step.{effect, step, outcome_of}
-use Rattle.index_directory.specs.declared.scan.Verdict.{Verdict}
-use Rattle.index_directory.specs.declared.scan.Verdict.TheVariants.{Broken as BrokenVerdict, Unmended, Consistent}
-use Rattle.index_directory.specs.Scans.{verdict_of}
-use Rattle.index_directory.proofs.Answers.{verdict_unmended, verdict_consistent}
-use Rattle.replies.specs.Answered.{Answered}
+use Rattle.replies.specs.Answered.{Answered, AfterStores, Without}
+use Rattle.replies.proofs.Answers.{answered_stores, answered_only, answered_refused}
 use Rattle.index_layout.specs.declared.place.Place.{Place}
 use Rattle.index.proofs.Places.{Stands}
-use Rattle.index.proofs.Answers.{answered_stores, answered_only, answered_refused}
-
--- What an answer behind stores says, where `due` were due: the reply is the plan's, or 7.
-abbrev pub AfterStores : (r : Answer) (reply : Said) (allowance due : ℕ) → Type 0
-AfterStores r reply allowance due = (said_by r.reply ≡ pick (leb due allowance) reply (refused 7)) × (r.stores ≡ min allowance due)
-
--- What an answer with no store says.
-abbrev pub Without : (r : Answer) (reply : Said) → Type 0
-Without r reply = (said_by r.reply ≡ reply) × (r.stores ≡ 0)
 
 -- ---- Format
 
@@ -64,25 +50,25 @@ module _ (a : List ℕ) (D S allowance : ℕ) (r : Answer) where
 
 -- ---- Get
 
-module _ (a : List ℕ) (key : ℕ) (r : Answer) where
-  get_answer : Without r (get a key) → Answered (outcome_of a (Get key)) r a
+module _ (a : List ℕ) (key : ℕ) where
+  pub get_answer : (r : Answer) → Without r (get a key) → Answered (outcome_of a (Get key)) r a
   unfolding effect step
-  get_answer k = record { reply = k.0; stores = k.1; words = refl }
+  get_answer r k = record { reply = k.0; stores = k.1; words = refl }
 
-  pub get_refused : (q : Refusal) → get_tests a key ≡ some q → Without r (refuse q) → Answered (outcome_of a (Get key)) r a
+  pub get_refused : (q : Refusal) → get_tests a key ≡ some q → refuse q ≡ get a key
   unfolding get replied
-  get_refused q e k = get_answer (rw e k)
+  get_refused q e = rw e
 
   module _ (p : Place) (x : Stands p a key (get_tests a key)) where
-    pub get_absent : hit a p.base p.key ≡ none → Without r absent → Answered (outcome_of a (Get key)) r a
+    pub get_absent : none ≡ hit a p.base p.key → absent ≡ get a key
     unfolding get replied value_at_hit
-    get_absent h k = get_answer (rw (x.0, ← x.1, x.2.base_is, h) k)
+    get_absent h = rw (x.0, ← x.1, x.2.base_is, ← h)
 
-    pub get_found : (j : ℕ) → hit a p.base p.key ≡ some j → Without r (done (word a (p.base + 2 * j + 1) ∷ [])) → Answered (outcome_of a (Get key)) r a
+    pub get_found : (j : ℕ) → some j ≡ hit a p.base p.key → done (word a (p.base + 2 * j + 1) ∷ []) ≡ get a key
     unfolding get replied value_at_hit
-    get_found j h k =
+    get_found j h =
         let at : p.base + 2 * j + 1 ≡ value_address p.base j = omega arith in
-        get_answer (rw (x.0, ← x.1, x.2.base_is, h) (rw at at k))
+        rw (x.0, ← x.1, x.2.base_is, ← h, at)
 
 -- ---- Remove, whose tests are those of put
 
@@ -105,13 +91,6 @@ module _ (a : List ℕ) (key allowance : ℕ) (r : Answer) where
         (answered_stores allowance (record { due = store (key_address p.base j) 0 ∷ []; reply = done [] }) a r due after e k)
 
 -- ---- Mend
-
--- A verdict that is not 'broken' says that the leaders are valid.
-pub verdict_valid : (a : List ℕ) (v : Verdict) → verdict_of v ≡ directory_tests a none → (v ≡ BrokenVerdict → ⊥)
-    → leaders_valid a (depth a) (segments a) ≡ true
-verdict_valid a BrokenVerdict e n = absurd (n refl)
-verdict_valid a Unmended e n = (verdict_unmended a Unmended e refl).0
-verdict_valid a Consistent e n = (verdict_consistent a Consistent e refl).0
 
 module _ (a : List ℕ) (allowance : ℕ) (r : Answer) where
   pub mend_no_store : valid_header a ≡ false → Without r (refused 1) → Answered (outcome_of a (Mend allowance)) r a

@@ -1,5 +1,4 @@
 -- The laws that the proofs of the calls share.
-pub mod Answers
 pub mod Places
 pub mod Calls
 pub mod Merges

@@ -1,7 +1,14 @@
 -- What the listings read, count and write, block by block, and what they answer.
-use mathlib.Core.Path.{◌≡◌, refl, sym, ap, ◌∙◌}
+use mathlib.Core.Path.{◌≡◌, refl, sym, ap, ap₂, ◌∙◌}
+use Rattle.std.specs.Prelude.{Result, Ok, Err, Option as PreludeOption}
+use Rattle.stores.specs.Options.{option_of}
+use Rattle.std.specs.Option.{ok_or}
+use Rattle.std.specs.Bool.{then_some}
+use Rattle.stores.proofs.Tests.{by_test}
+use Rattle.index_structure.proofs.Found.{found, found_none}
+use lib.Dec.{ltb}
 use mathlib.Core.Bool.{true, false}
-use mathlib.Core.List.{List, [], ◌∷◌, ◌++◌}
+use mathlib.Core.List.{List, ◌++◌}
 use mathlib.Core.Option.{Option, none, some}
 use Prim.Native.Nat.{ℕ, ◌+◌, ◌-◌, ◌*◌, ◌%◌, ◌^◌, ◌≤◌, ◌<◌}
 use native.Mathlib.Omega.{arith}
@@ -10,13 +17,13 @@ use lib.ListN.{length, length-append}
 use Rattle.stores.specs.Store.{word}
 use Rattle.replies.specs.declared.Refusal.{Refusal}
 use Rattle.replies.specs.declared.Refusal.TheVariants.{NoStore, ShortList, NoLeader}
-use Rattle.replies.specs.declared.Answer.{Answer}
 use Rattle.index_rules.specs.Layout.{valid_header, depth, segments, entry_at, segment_of, local_depth}
 use Rattle.index_rules.specs.Keys.{width}
 use Rattle.index_rules.specs.Scan.{leader, leaders_valid}
-use Rattle.replies.specs.Replies.{done, listed, refuse, unless}
+use Rattle.replies.specs.declared.Reply.{Reply}
+use Rattle.replies.specs.declared.Reply.TheVariants.{Value, Listed}
+use Rattle.replies.specs.Replies.{listed, said_by, unless}
 use Rattle.replies.specs.Writing.{Writing, behind_tests}
-use Rattle.replies.specs.Answered.{Wrote}
 use Rattle.index_rules.specs.Put.{directory_tests}
 use Rattle.index_rules.specs.Listing.{block_records, records, words_of, listing_tests, room_test, list_tests, list}
 use Rattle.index_rules.specs.ListBlock.{leads, records_led, following, following_led, list_block_tests, list_block}
@@ -29,13 +36,9 @@ use Rattle.index_layout.specs.declared.header.Header.{Header}
 use Rattle.index_layout.specs.Headers.{Describes}
 use Rattle.index_layout.proofs.Shapes.{bounds}
 use Rattle.index_layout.proofs.Entries.{entry_word, mask_width}
+use Rattle.index_directory.specs.Scans.{LeadersRead}
 use Rattle.index.specs.declared.listing.BlockPlace.{BlockPlace}
-use Rattle.index.specs.declared.listing.Listable.{Listable}
-use Rattle.index.specs.declared.listing.Listable.TheVariants.{As, Refused}
-use Rattle.index.specs.declared.listing.BlockFound.{BlockFound}
-use Rattle.index.specs.declared.listing.BlockFound.TheVariants.{At, NoLeader as NoBlock}
-use Rattle.index.specs.Blocks.{ListableRead, ListableBy, BlockRead, FoundAt, PlaceInside, place_records}
-use Rattle.index.proofs.Calls.{Without}
+use Rattle.index.specs.Blocks.{ListableRead, BlockRead, FoundAt, PlaceInside, place_records, ListedBy}
 use Rattle.index_layout.proofs.Places.{segment_fits}
 
 -- ---- The tests in front
@@ -49,14 +52,6 @@ module _ (a : List ℕ) where
   pub front_directory : valid_header a ≡ true → listing_tests a none ≡ directory_tests a none
   unfolding listing_tests unless
   front_directory e = rw e
-
--- What the tests have answered.
-module _ (a : List ℕ) (r : Listable) (e : ListableBy r a) where
-  pub listable_as : (h : Header) → r ≡ As h → ListableRead h a
-  listable_as h q = rw q at e
-
-  pub listable_refused : (q : Refusal) → r ≡ Refused q → listing_tests a none ≡ some q
-  listable_refused q k = rw k at e
 
 -- ---- At a leader
 
@@ -132,13 +127,18 @@ module _ {h : Header} {a : List ℕ} (r : ListableRead h a) (count : ℕ) (c : c
           let p = listing_passed a none r.1 in
           not_leads a i (λ t. n (rest_is ∙ leads_aligned a p.leaders p.agree i inside_directory t.own))
 
--- What the search for a block has answered.
-module _ (a : List ℕ) (i : ℕ) (r : BlockFound) (e : FoundAt r a i) where
-  pub found_at : (b : BlockPlace) → r ≡ At b → (leads a i ≡ true) × BlockRead a i b
-  found_at b q = rw q at e
+-- What the search for a block has answered, where the call goes on with it or refuses.
+module _ (a : List ℕ) (i : ℕ) (x : PreludeOption BlockPlace) (e : FoundAt x a i) (r : Refusal) where
+  pub block_found : {b : BlockPlace} → Ok b ≡ ok_or x r → (leads a i ≡ true) × BlockRead a i b
+  block_found q = rw (found x r q) at e
 
-  pub found_none : r ≡ NoBlock → leads a i ≡ false
-  found_none q = rw q at e
+  pub block_not_found : {f : Refusal} → Err f ≡ ok_or x r → (leads a i ≡ false) × (f ≡ r)
+  block_not_found q = (rw (found_none x r q).0 at e, (found_none x r q).1)
+
+-- What follows a block, as the code finds it.
+pub following_said : (next end : ℕ) → option_of (then_some (ltb next end) next) ≡ following next end
+unfolding following
+following_said next end = by_test (ltb next end) (λ t. rw t) (λ t. rw t)
 
 -- What follows the block that was read.
 pub following_read : {h : Header} {a : List ℕ} → Describes h a → (i : ℕ) (b : BlockPlace) → BlockRead a i b
@@ -177,6 +177,10 @@ pub loop_leads : {h : Header} {a : List ℕ} → Describes h a → (count : ℕ)
     → leader a (depth a) i ≡ i → leads a i ≡ true
 loop_leads {h} {a} d count c i k own = leader_at a i (rw d.depth_read (omega arith)) own
 
+-- A step through the blocks of an array b, which is a, has read the block x at index i.
+pub step_turn : {h : Header} {a b : List ℕ} → LeadersRead h a → b ≡ a → (i : ℕ) (x : BlockPlace) → leads b i ≡ true → BlockRead b i x → Turn a (2 ^ h.depth) i x
+step_turn d e i x lead r = turn d.0 d.1 _ refl i (rw e at lead) x (rw e at r)
+
 -- The records of the block behind those before it, counted and written.
 module _ {a : List ℕ} {count i : ℕ} {b : BlockPlace} (t : Turn a count i b) where
   pub count_turn : (total n : ℕ) → total ≡ length (records_to a i) → n ≡ length (place_records a b) → total + n ≡ length (records_to a b.next)
@@ -190,38 +194,40 @@ module _ {a : List ℕ} {count i : ℕ} {b : BlockPlace} (t : Turn a count i b) 
 -- ---- What the calls answer
 
 -- A writing behind tests that refuse, and behind tests that pass.
-module _ (t : Option Refusal) (w : Writing) (l : List ℕ) (r : Answer) where
-  pub wrote_nothing : (q : Refusal) → t ≡ some q → Without r (refuse q) → Wrote (behind_tests t w) r l l
+module _ (t : Option Refusal) (w : Writing) (l : List ℕ) where
+  wrote_nothing : (q : Refusal) → t ≡ some q → ListedBy (behind_tests t w) (Err q) l l
   unfolding behind_tests
-  wrote_nothing q e k = rw e (record { reply = k.0; stores = k.1; left = refl })
+  wrote_nothing q e = rw e (refl, refl)
 
-  pub wrote_words : t ≡ none → Without r w.reply → (n : ℕ) (l' : List ℕ) → Written w.words 0 l n l' → Wrote (behind_tests t w) r l l'
+  wrote_words : t ≡ none → (x : Result Reply Refusal) → said_by x ≡ w.reply → (n : ℕ) (l' : List ℕ) → Written w.words 0 l n l'
+      → ListedBy (behind_tests t w) x l l'
   unfolding behind_tests
-  wrote_words e k n l' x = rw e (record { reply = k.0; stores = k.1; left = written_at_front w.words l n l' x })
+  wrote_words e x k n l' m = rw e (k, written_at_front w.words l n l' m)
 
-module _ (a l : List ℕ) (r : Answer) where
-  pub list_refused : (q : Refusal) → listing_tests a none ≡ some q → Without r (refuse q) → Wrote (list a (length l)) r l l
+module _ (a l : List ℕ) where
+  pub list_refused : (q : Refusal) → listing_tests a none ≡ some q → ListedBy (list a (length l)) (Err q) l l
   unfolding list list_tests
-  list_refused q e k = wrote_nothing _ _ l r q (listing_stops a q _ e) k
+  list_refused q e = wrote_nothing _ _ l q (listing_stops a q _ e)
 
-  pub block_refused : (i : ℕ) (q : Refusal) → listing_tests a none ≡ some q → Without r (refuse q) → Wrote (list_block a i (length l)) r l l
+  pub block_refused : (i : ℕ) (q : Refusal) → listing_tests a none ≡ some q → ListedBy (list_block a i (length l)) (Err q) l l
   unfolding list_block list_block_tests
-  block_refused i q e k = wrote_nothing _ _ l r q (listing_stops a q _ e) k
+  block_refused i q e = wrote_nothing _ _ l q (listing_stops a q _ e)
 
   module _ (passed : listing_tests a none ≡ none) where
-    pub list_short : length l < 2 * length (records a) → Without r (refuse ShortList) → Wrote (list a (length l)) r l l
+    pub list_short : length l < 2 * length (records a) → ListedBy (list a (length l)) (Err ShortList) l l
     unfolding list list_tests
-    list_short h k = wrote_nothing _ _ l r ShortList (listing_goes_on a _ passed ∙ room_short (records a) (length l) h) k
+    list_short h = wrote_nothing _ _ l ShortList (listing_goes_on a _ passed ∙ room_short (records a) (length l) h)
 
-    pub list_done : 2 * length (records a) ≤ length l → Without r (done (length (records a) ∷ [])) → (n : ℕ) (l' : List ℕ)
-        → Written (words_of (records a)) 0 l n l' → Wrote (list a (length l)) r l l'
+    pub list_done : 2 * length (records a) ≤ length l → (count : ℕ) → count ≡ length (records a) → (n : ℕ) (l' : List ℕ)
+        → Written (words_of (records a)) 0 l n l' → ListedBy (list a (length l)) (Ok (Value count)) l l'
     unfolding list list_tests
-    list_done h k n l' w = wrote_words _ _ l r (listing_goes_on a _ passed ∙ room_passed (records a) (length l) h) k n l' w
+    list_done h count k n l' w =
+        wrote_words _ _ l (listing_goes_on a _ passed ∙ room_passed (records a) (length l) h) (Ok (Value count)) (rw k) n l' w
 
     module _ (i : ℕ) where
-      pub block_no_leader : leads a i ≡ false → Without r (refuse NoLeader) → Wrote (list_block a i (length l)) r l l
+      pub block_no_leader : leads a i ≡ false → ListedBy (list_block a i (length l)) (Err NoLeader) l l
       unfolding list_block list_block_tests unless
-      block_no_leader e k = wrote_nothing _ _ l r NoLeader (listing_goes_on a _ passed ∙ rw e) k
+      block_no_leader e = wrote_nothing _ _ l NoLeader (listing_goes_on a _ passed ∙ rw e)
 
       module _ (lead : leads a i ≡ true) where
         -- Behind 1, 3, 4 and 16 the room decides.
@@ -229,11 +235,13 @@ module _ (a l : List ℕ) (r : Answer) where
         unfolding list_block_tests unless
         room_decides = listing_goes_on a _ passed ∙ rw lead
 
-        pub block_short : length l < 2 * length (records_led a i) → Without r (refuse ShortList) → Wrote (list_block a i (length l)) r l l
+        pub block_short : length l < 2 * length (records_led a i) → ListedBy (list_block a i (length l)) (Err ShortList) l l
         unfolding list_block
-        block_short h k = wrote_nothing _ _ l r ShortList (room_decides ∙ room_short (records_led a i) (length l) h) k
+        block_short h = wrote_nothing _ _ l ShortList (room_decides ∙ room_short (records_led a i) (length l) h)
 
-        pub block_done : 2 * length (records_led a i) ≤ length l → Without r (listed (length (records_led a i)) (following_led a i)) → (n : ℕ) (l' : List ℕ)
-            → Written (words_of (records_led a i)) 0 l n l' → Wrote (list_block a i (length l)) r l l'
+        pub block_done : 2 * length (records_led a i) ≤ length l → (count : ℕ) (next : PreludeOption ℕ) → count ≡ length (records_led a i)
+            → option_of next ≡ following_led a i → (n : ℕ) (l' : List ℕ)
+            → Written (words_of (records_led a i)) 0 l n l' → ListedBy (list_block a i (length l)) (Ok (Listed count next)) l l'
         unfolding list_block
-        block_done h k n l' w = wrote_words _ _ l r (room_decides ∙ room_passed (records_led a i) (length l) h) k n l' w
+        block_done h count next k f n l' w =
+            wrote_words _ _ l (room_decides ∙ room_passed (records_led a i) (length l) h) (Ok (Listed count next)) (ap₂ listed k f) n l' w

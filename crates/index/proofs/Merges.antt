@@ -3,11 +3,13 @@ use mathlib.Core.Path.{◌≡◌, ◌∙◌}
 use mathlib.Core.List.{List, []}
 use mathlib.Core.Option.{none, some}
 use Prim.Native.Nat.{ℕ}
+use Rattle.std.specs.Prelude.{Ok, Err}
 use Rattle.replies.specs.declared.Refusal.{Refusal}
 use Rattle.replies.specs.declared.Refusal.TheVariants.{NoBuddy, BothLive}
 use Rattle.replies.specs.declared.Answer.{Answer}
 use Rattle.replies.specs.Replies.{done, refused, refuse, tested}
-use Rattle.replies.specs.Answered.{Answered}
+use Rattle.replies.specs.Answered.{Answered, AfterStores, Without}
+use Rattle.replies.proofs.Answers.{answered_stores, answered_refused}
 use Rattle.index_rules.specs.declared.Call.TheVariants.{Merge}
 use Rattle.index_rules.specs.Layout.{depth}
 use Rattle.index_rules.specs.Keys.{index}
@@ -19,12 +21,8 @@ use Rattle.index_laws.proofs.Put.{Passed, passed}
 use Rattle.index_laws.proofs.Merge.{key_placed, left_below, right_below, no_buddy, both_live_holds, both_pass, tests_stop, tests_past}
 use Rattle.index_layout.specs.declared.place.Place.{Place}
 use Rattle.index_layout.specs.Places.{KeyPlace}
-use Rattle.index_structure.specs.declared.merge.MergeAnswer.{MergeAnswer}
-use Rattle.index_structure.specs.declared.merge.MergeAnswer.TheVariants.{Due, NoBuddy as NoBuddyAnswer, BothLive as BothLiveAnswer}
 use Rattle.index_structure.specs.Merges.{HalvesBelow, MergedBy}
 use Rattle.index.proofs.Places.{Stands}
-use Rattle.index.proofs.Answers.{answered_stores, answered_refused}
-use Rattle.index.proofs.Calls.{AfterStores, Without}
 
 -- Where the key's entry has a buddy, both name segments below S: the directory is consistent.
 pub halves_below : {p : Place} {a : List ℕ} {key : ℕ} → KeyPlace p a → put_tests a key ≡ none → p.key ≡ key → HalvesBelow p a
@@ -41,26 +39,28 @@ module _ (a : List ℕ) (key allowance : ℕ) (r : Answer) where
     tests : Passed a key
     tests = passed a key x.0
 
-    pub merge_no_buddy : (b : List ℕ) → MergedBy NoBuddyAnswer p allowance a b → Without r (refused 14) → Answered (outcome_of a (Merge key allowance)) r b
+    merge_no_buddy : (b : List ℕ) → MergedBy (Err NoBuddy) p allowance a b → Without r (refused 14) → Answered (outcome_of a (Merge key allowance)) r b
     unfolding effect step merge
     merge_no_buddy b m k =
         rw m.1
         (answered_refused allowance (merge_tests a key) NoBuddy _ a r
         (tests_past tests ∙ no_buddy a (index key (depth a)) (key_entry a key) (rw x.1 at m.0)) k.0 k.1)
 
-    pub merge_both_live : (b : List ℕ) → MergedBy BothLiveAnswer p allowance a b → Without r (refused 15) → Answered (outcome_of a (Merge key allowance)) r b
+    merge_both_live : (b : List ℕ) → MergedBy (Err BothLive) p allowance a b → Without r (refused 15) → Answered (outcome_of a (Merge key allowance)) r b
     unfolding effect step merge
     merge_both_live b m k =
         rw m.2
         (answered_refused allowance (merge_tests a key) BothLive _ a r
         (tests_past tests ∙ both_live_holds a (index key (depth a)) (key_entry a key) (rw x.1 at m.0) (rw x.1 at m.1)) k.0 k.1)
 
-    pub merge_done : (due : ℕ) (b : List ℕ) → MergedBy (Due due) p allowance a b → AfterStores r (done []) allowance due → Answered (outcome_of a (Merge key allowance)) r b
+    pub merge_done : (due : ℕ) (b : List ℕ) → MergedBy (Ok due) p allowance a b → AfterStores r (done []) allowance due → Answered (outcome_of a (Merge key allowance)) r b
     unfolding effect step merge tested
     merge_done due b m k =
         rw (tests_past tests ∙ both_pass a (index key (depth a)) (key_entry a key) (rw x.1 at m.buddy) (rw x.1 at m.apart))
         (answered_stores allowance (record { due = key_merging a key; reply = done [] }) a r due b (rw x.1 at m.made) k)
 
--- What the merge of the halves has answered.
-pub answer_is : (x y : MergeAnswer) (p : Place) (allowance : ℕ) (a b : List ℕ) → MergedBy x p allowance a b → x ≡ y → MergedBy y p allowance a b
-answer_is x y p allowance a b m q = rw q at m
+    -- The merge of the halves has refused.
+    pub merge_not_made : (q : Refusal) (b : List ℕ) → MergedBy (Err q) p allowance a b → Without r (refuse q) → Answered (outcome_of a (Merge key allowance)) r b
+    merge_not_made NoBuddy b m k = merge_no_buddy b m k
+    merge_not_made BothLive b m k = merge_both_live b m k
+    merge_not_made _ b m k = absurd m

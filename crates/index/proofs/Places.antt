@@ -12,21 +12,17 @@ use Rattle.replies.specs.Replies.{unless}
 use Rattle.index_rules.specs.Layout.{valid_header, depth, segments}
 use Rattle.index_rules.specs.Get.{key_entry, key_segment, key_tests, entry_tests, get_tests}
 use Rattle.index_rules.specs.Put.{directory_tests, put_tests, key_choice}
-use Rattle.index_rules.specs.Slots.{choose, hit}
+use Rattle.index_rules.specs.Slots.{choose, hit, found}
 use Rattle.index_laws.proofs.Keys.{index_shift}
 use Rattle.index_laws.proofs.Scan.{in_range_holds}
 use Rattle.index_laws.proofs.Put.{passed, choice_found, choice_into, choice_full}
 use Rattle.index_laws.proofs.Range.{hit_slot}
-use Rattle.index_segment.specs.declared.probe.Hit.{Hit}
-use Rattle.index_segment.specs.declared.probe.Hit.TheVariants.{At as HitAt, Absent}
-use Rattle.index_segment.specs.declared.choice.Choice.{Choice as CodeChoice}
+use Rattle.index_segment.specs.declared.choice.Choice.{Choice}
 use Rattle.index_segment.specs.declared.choice.Choice.TheVariants.{Found, Into, Full}
-use Rattle.index_segment.specs.Answers.{hit_of, choice_of}
+use Rattle.index_segment.specs.Answers.{choice_of}
 use Rattle.index_layout.specs.declared.place.Place.{Place}
-use Rattle.index_layout.specs.declared.place.Placed.{Placed}
-use Rattle.index_layout.specs.declared.place.Placed.TheVariants.{At, Refused}
 use Rattle.index_layout.specs.Blocks.{shared}
-use Rattle.index_layout.specs.Places.{KeyPlace, block_of, PlacedBy}
+use Rattle.index_layout.specs.Places.{KeyPlace, block_of}
 use Rattle.index_layout.proofs.Places.{place_bounds, place_shared}
 
 module _ (a : List ℕ) (key : ℕ) (later : Option Refusal) where
@@ -82,13 +78,6 @@ module _ (a : List ℕ) (key : ℕ) where
 abbrev pub Stands : Place → List ℕ → (key : ℕ) → Option Refusal → Type 0
 Stands p a key t = (t ≡ none) × (p.key ≡ key) × KeyPlace p a
 
-module _ (r : Placed) (a : List ℕ) (key : ℕ) (t : Option Refusal) (e : PlacedBy r a key t) where
-  pub stands : (p : Place) → r ≡ At p → Stands p a key t
-  stands p q = rw q at e
-
-  pub refused_by : (f : Refusal) → r ≡ Refused f → t ≡ some f
-  refused_by f q = rw q at e
-
 -- The choice of a slot in the segment at the key's place is that of the key.
 pub place_choice : {p : Place} {a : List ℕ} → KeyPlace p a → choose a p.base p.local_depth (shared (block_of p)) p.key ≡ key_choice a p.key
 unfolding key_choice
@@ -97,28 +86,21 @@ place_choice {p} {a} k =
     rw (k.base_is, k.depth_is, index_shift p.key (depth a) p.local_depth low, place_shared k)
 
 -- A slot that was found at the key's place is one of the segment's, and the segment lies in the array.
-module _ {p : Place} {a : List ℕ} (k : KeyPlace p a) (r : Hit) (e : hit_of r ≡ hit a p.base p.key) where
-  pub found_hit : (j : ℕ) → r ≡ HitAt j → hit a p.base p.key ≡ some j
-  found_hit j q = sym (rw q at e)
+module _ {p : Place} {a : List ℕ} (k : KeyPlace p a) where
+  pub found_inside : {j : ℕ} → some j ≡ hit a p.base p.key → (j < 64) × (p.base + 128 ≤ length a)
+  found_inside {j} e = (hit_slot a p.base p.key j (sym e), (place_bounds k).whole)
 
-  pub absent_hit : r ≡ Absent → hit a p.base p.key ≡ none
-  absent_hit q = sym (rw q at e)
+  -- The same of a slot that was chosen: the hit is found where the choice is, and there is none where the choice is another.
+  pub chosen_hit : {j : ℕ} → found j ≡ key_choice a p.key → hit a p.base p.key ≡ some j
+  chosen_hit {j} e = rw k.base_is at (choice_found a p.key j (sym e))
 
-  pub found_inside : (j : ℕ) → r ≡ HitAt j → (j < 64) × (p.base + 128 ≤ length a)
-  found_inside j q = (hit_slot a p.base p.key j (found_hit j q), (place_bounds k).whole)
+  pub chosen_inside : {j : ℕ} → found j ≡ key_choice a p.key → (j < 64) × (p.base + 128 ≤ length a)
+  chosen_inside e = found_inside (sym (chosen_hit e))
 
--- The same of a slot that was chosen: the hit is found where the choice is, and there is none where the choice is another.
-module _ {p : Place} {a : List ℕ} (k : KeyPlace p a) (r : CodeChoice) (e : choice_of r ≡ key_choice a p.key) where
-  pub chosen_hit : (j : ℕ) → r ≡ Found j → hit a p.base p.key ≡ some j
-  chosen_hit j q = rw k.base_is at (choice_found a p.key j (sym (rw q at e)))
-
-  pub chosen_inside : (j : ℕ) → r ≡ Found j → (j < 64) × (p.base + 128 ≤ length a)
-  chosen_inside j q = (hit_slot a p.base p.key j (chosen_hit j q), (place_bounds k).whole)
-
-  pub not_chosen : ((j : ℕ) → r ≡ Found j → ⊥) → hit a p.base p.key ≡ none
-  not_chosen t = rw k.base_is at (misses r t (sym e))
+  pub not_chosen : (r : Choice) → choice_of r ≡ key_choice a p.key → ((j : ℕ) → r ≡ Found j → ⊥) → hit a p.base p.key ≡ none
+  not_chosen r e t = rw k.base_is at (misses r t (sym e))
     where
-      misses : (q : CodeChoice) → ((j : ℕ) → q ≡ Found j → ⊥)
+      misses : (q : Choice) → ((j : ℕ) → q ≡ Found j → ⊥)
           → key_choice a p.key ≡ choice_of q → hit a (key_segment a p.key) p.key ≡ none
       misses (Found j) t e = absurd (t j refl)
       misses (Into j) t e = (choice_into a p.key j e).missing

@@ -7,6 +7,7 @@ use native.Mathlib.Nat.{min-eq_left, sub-zero, zero-add}
 use native.Mathlib.Omega.{arith}
 use borrow.Author.Tests.{le-leb, lt-leb, leb-true}
 use lib.Dec.{leb}
+use Rattle.std.specs.Prelude.{Ok, Err}
 use lib.ListN.{length, length-append}
 use Rattle.stores.specs.Store.{Store, store, exec, apply}
 use Rattle.stores.specs.Plan.{Plan, ◌then◌, cut}
@@ -16,11 +17,10 @@ use Rattle.stores.proofs.Stores.{exec_append, exec_all, exec_not_made}
 use Rattle.stores.proofs.Plans.{made_allowed}
 use Rattle.replies.specs.declared.Refusal.{Refusal}
 use Rattle.replies.specs.declared.Refusal.TheVariants.{TooDeep, NoSegment, CutOff}
-use Rattle.replies.specs.declared.Reply.TheVariants.{Refused as RefusedReply}
 use Rattle.replies.specs.declared.Answer.{Answer}
 use Rattle.index_rules.specs.declared.Call.TheVariants.{Put}
 use Rattle.index_rules.specs.Layout.{max_depth, local_depth, value_address}
-use Rattle.index_rules.specs.Slots.{found, into, full, free_segment}
+use Rattle.index_rules.specs.Slots.{Choice, found, into, full, free_segment}
 use Rattle.replies.specs.Replies.{Said, refuse, said_by, changed}
 use Rattle.index_rules.specs.Get.{key_entry, key_segment}
 use Rattle.index_rules.specs.Split.{splitting}
@@ -31,15 +31,10 @@ use Rattle.index_laws.proofs.Keys.{window_lt}
 use Rattle.index_laws.proofs.Range.{hit_slot}
 use Rattle.index_laws.proofs.Put.{put_refused, put_found, put_into, put_too_deep, put_no_segment, put_again, put_splittable, choice_found, choice_into}
 use Rattle.index_layout.specs.declared.place.Place.{Place}
-use Rattle.index_structure.specs.declared.split.SplitAnswer.{SplitAnswer}
-use Rattle.index_structure.specs.declared.split.SplitAnswer.TheVariants.{Due, TooDeep as SplitTooDeep, NoSegment as SplitNoSegment}
 use Rattle.index_structure.specs.Splits.{SplitBy}
-use Rattle.index_segment.specs.declared.choice.Choice.{Choice}
-use Rattle.index_segment.specs.declared.choice.Choice.TheVariants.{Found, Into, Full}
-use Rattle.index_segment.specs.Answers.{choice_of}
 use Rattle.replies.specs.Answered.{Answered}
 use Rattle.index.specs.Slots.{value_put, record_put}
-use Rattle.index.proofs.Answers.{answered_only}
+use Rattle.replies.proofs.Answers.{answered_only}
 use Rattle.index.proofs.Places.{Stands}
 
 -- ---- Stores at a slot
@@ -93,80 +88,70 @@ pub record SplitOf (p : Place) (key allowance due : ℕ) (a b : List ℕ) : Type
   pub free : free_segment a ≡ some new
   pub made : Executed (splitting a key new) allowance 0 a due b
 
-module _ {p : Place} {a : List ℕ} {key : ℕ} (k : Stands p a key (put_tests a key)) (x : Choice) (c : choice_of x ≡ key_choice a p.key) where
-  key_choice_holds : choice_of x ≡ key_choice a key
-  key_choice_holds = rw k.1 at c
+module _ {p : Place} {a : List ℕ} {key : ℕ} (k : Stands p a key (put_tests a key)) where
+  -- What was chosen at the key's place.
+  pub choice_read : {x : Choice} → x ≡ key_choice a p.key → key_choice a key ≡ x
+  choice_read c = sym (rw k.1 at c)
 
-  pub choice_full_read : x ≡ Full → key_choice a key ≡ full
-  choice_full_read q = sym (rw q at key_choice_holds)
+  pub found_slot : {j : ℕ} → found j ≡ key_choice a p.key → j < 64
+  found_slot {j} c = hit_slot a (key_segment a key) key j (choice_found a key j (choice_read c))
 
-  choice_found_read : {j : ℕ} → x ≡ Found j → key_choice a key ≡ found j
-  choice_found_read q = sym (rw q at key_choice_holds)
-
-  choice_into_read : {j : ℕ} → x ≡ Into j → key_choice a key ≡ into j
-  choice_into_read q = sym (rw q at key_choice_holds)
-
-  pub found_slot : {j : ℕ} → x ≡ Found j → j < 64
-  found_slot {j} q = hit_slot a (key_segment a key) key j (choice_found a key j (choice_found_read q))
-
-  pub into_slot : {j : ℕ} → x ≡ Into j → j < 64
-  into_slot {j} q = window_lt key j (choice_into a key j (choice_into_read q)).in_window
+  pub into_slot : {j : ℕ} → into j ≡ key_choice a p.key → j < 64
+  into_slot {j} c = window_lt key j (choice_into a key j (choice_read c)).in_window
 
   base_is : key_segment a key ≡ p.base
   base_is = rw k.1 at k.2.base_is
 
   module _ (value allowance : ℕ) (r : Answer) (after : List ℕ) where
-    pub answers_found : {j : ℕ} → x ≡ Found j → Answered (changed allowance (value_put p value j) a) r after
+    pub answers_found : {j : ℕ} → found j ≡ key_choice a p.key → Answered (changed allowance (value_put p value j) a) r after
         → Answered (outcome_of a (Put key value allowance)) r after
     unfolding effect step
-    answers_found {j} q m = rw (put_found a key value k.0 j (choice_found_read q), base_is) m
+    answers_found {j} c m = rw (put_found a key value k.0 j (choice_read c), base_is) m
 
-    pub answers_into : {j : ℕ} → x ≡ Into j → Answered (changed allowance (record_put p value j) a) r after
+    pub answers_into : {j : ℕ} → into j ≡ key_choice a p.key → Answered (changed allowance (record_put p value j) a) r after
         → Answered (outcome_of a (Put key value allowance)) r after
     unfolding effect step
-    answers_into {j} q m = rw (put_into a key value k.0 j (choice_into_read q), base_is, ← k.1) m
+    answers_into {j} c m = rw (put_into a key value k.0 j (choice_read c), base_is, ← k.1) m
 
 -- ---- Refusals
 
 pub answers_refused : (a : List ℕ) (key value allowance : ℕ) (q : Refusal) (r : Answer) → put_tests a key ≡ some q
-    → (r.reply ≡ RefusedReply q) × (r.stores ≡ 0) → Answered (outcome_of a (Put key value allowance)) r a
+    → (r.reply ≡ Err q) × (r.stores ≡ 0) → Answered (outcome_of a (Put key value allowance)) r a
 unfolding effect step
 answers_refused a key value allowance q r t e =
     rw (put_refused a key value q t) (answered_only allowance (refuse q) a r (ap said_by e.0) e.1)
 
-module _ {p : Place} {a : List ℕ} {key : ℕ} (k : Stands p a key (put_tests a key)) (full-window : key_choice a key ≡ full) where
+module _ {p : Place} {a : List ℕ} {key : ℕ} (k : Stands p a key (put_tests a key)) (full-window : full ≡ key_choice a p.key) where
+  window_full : key_choice a key ≡ full
+  window_full = choice_read k full-window
+
   depth_is : local_depth (key_entry a key) ≡ p.local_depth
   depth_is = rw k.1 at k.2.depth_is
 
+  room : p.local_depth < p.header.max_depth → local_depth (key_entry a key) < max_depth a
+  room l = rw (depth_is, k.2.header_read.max_depth_read) l
+
   -- What the split has answered, and left as b.
-  module _ (allowance : ℕ) (x : SplitAnswer) (b : List ℕ) (s : SplitBy x p allowance a b) where
-    pub answers_too_deep : x ≡ SplitTooDeep → (value : ℕ) (r : Answer) → (r.reply ≡ RefusedReply TooDeep) × (r.stores ≡ 0)
+  module _ (allowance : ℕ) (b : List ℕ) where
+    -- It has refused.
+    pub answers_not_split : (q : Refusal) → SplitBy (Err q) p allowance a b → (value : ℕ) (r : Answer) → (r.reply ≡ Err q) × (r.stores ≡ 0)
         → Answered (outcome_of a (Put key value allowance)) r b
     unfolding effect step
-    answers_too_deep q value r e =
-        let t = rw q at s in
+    answers_not_split TooDeep t value r e =
         let deep : local_depth (key_entry a key) ≡ max_depth a = depth_is ∙ t.0 ∙ sym k.2.header_read.max_depth_read in
-        rw (t.1, put_too_deep a key value k.0 full-window deep)
+        rw (t.1, put_too_deep a key value k.0 window_full deep)
         (answered_only allowance (refuse TooDeep) a r (ap said_by e.0) e.1)
-
-    room : p.local_depth < p.header.max_depth → local_depth (key_entry a key) < max_depth a
-    room l = rw (depth_is, k.2.header_read.max_depth_read) l
-
-    pub answers_no_segment : x ≡ SplitNoSegment → (value : ℕ) (r : Answer) → (r.reply ≡ RefusedReply NoSegment) × (r.stores ≡ 0)
-        → Answered (outcome_of a (Put key value allowance)) r b
-    unfolding effect step
-    answers_no_segment q value r e =
-        let t = rw q at s in
-        rw (t.2, put_no_segment a key value k.0 full-window (room t.0) t.1)
+    answers_not_split NoSegment t value r e =
+        rw (t.2, put_no_segment a key value k.0 window_full (room t.0) t.1)
         (answered_only allowance (refuse NoSegment) a r (ap said_by e.0) e.1)
+    answers_not_split _ t value r e = absurd t
 
-    pub split_of : {due : ℕ} → x ≡ Due due → SplitOf p key allowance due a b
-    split_of q =
-        let t = rw q at s in
+    pub split_of : {due : ℕ} → SplitBy (Ok due) p allowance a b → SplitOf p key allowance due a b
+    split_of t =
         record {
           new = t.0;
           stands = k;
-          window_full = full-window;
+          window_full = window_full;
           room = room t.1.local_room;
           free = t.1.free;
           made = rw (← k.1) t.1.made;
@@ -181,7 +166,7 @@ module _ {p : Place} {key allowance due : ℕ} {a b : List ℕ} (m : SplitOf p k
   due_length : due ≡ length (splitting a key m.new)
   due_length = m.made.count ∙ zero-add (length (splitting a key m.new))
 
-  pub answers_cut : allowance < due → Answered (outcome_of a (Put key value allowance)) (record { reply = RefusedReply CutOff; stores = allowance }) b
+  pub answers_cut : allowance < due → Answered (outcome_of a (Put key value allowance)) (record { reply = Err CutOff; stores = allowance }) b
   unfolding effect step
   answers_cut l =
       rw (plan, changed_then_cut allowance (splitting a key m.new) (put (apply (splitting a key m.new) a) key value) a (rw due_length at l))

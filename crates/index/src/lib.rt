@@ -2,35 +2,34 @@
 // block. Every array, also the empty one, and every argument gets an answer; none has a requirement.
 #![tactic(auto)]
 
-mod answer;
+mod blocks;
 mod listing;
 mod place;
 mod slot;
 
-ghost use Rattle.std.specs.Prelude.{length};
+ghost use Rattle.std.specs.Prelude.{◌≡◌, length};
+ghost use Rattle.replies.specs.Replies.{said_by};
 ghost use Rattle.replies.specs.Answered.{Answered, Wrote};
 ghost use Rattle.index_rules.specs.declared.Call.TheVariants.{Format, Get, Put, Remove, Merge, Mend};
+ghost use Rattle.index_rules.specs.Get.{get as getOf};
 ghost use Rattle.index_rules.specs.Listing.{list as listing};
 ghost use Rattle.index_rules.specs.ListBlock.{list_block};
 ghost use Rattle.index_rules.specs.Step.{outcome_of, Performed};
+ghost use Rattle.index.specs.Blocks.{ListedBy};
 
-use answer::after_stores;
 use index_directory::mend::mend_entries;
-use index_directory::scan::{Verdict, scan};
-use index_layout::header::{HeaderRead, read_header, valid_shape, words_for};
-use index_layout::place::Placed;
+use index_directory::scan::scan;
+use index_layout::header::{read_header, valid_shape, words_for};
 use index_rules::Call;
 use index_segment::choice::Choice;
-use index_segment::probe::Hit;
 use index_structure::empty::store_empty;
-use index_structure::merge::{MergeAnswer, merge as merge_halves};
-use index_structure::split::{SplitAnswer, split};
+use index_structure::merge::merge as merge_halves;
+use index_structure::split::split;
 use listing::{
-    BlockFound, Listable, count_block, count_records, find_block, following, header_to_list,
-    write_block, write_records,
+    count_block, count_records, find_block, following, header_to_list, write_block, write_records,
 };
 use place::{place_to_change, place_to_read};
-use replies::{Answer, Refusal, Reply, without_store};
+use replies::{Answer, Refusal, Reply, after_stores, without_store};
 use slot::{choose_at, find_at, put_record, put_value};
 use stores::store_word;
 
@@ -39,10 +38,10 @@ pub fn format(words: &mut [u64], depth: u64, segments: u64, allowance: u32) -> A
     ensures { Answered (outcome_of words.old (Format depth segments allowance)) result words.new }
 {
     if !valid_shape(depth, segments) {
-        return without_store(Reply::Refused(Refusal::BadShape));
+        return without_store(Err(Refusal::BadShape));
     }
     if words.len() < words_for(depth, segments) {
-        return without_store(Reply::Refused(Refusal::TooShort));
+        return without_store(Err(Refusal::TooShort));
     }
     let due = store_empty(words, depth as u32, segments as u32, allowance);
     after_stores(Reply::Done, allowance, due)
@@ -52,15 +51,19 @@ pub fn format(words: &mut [u64], depth: u64, segments: u64, allowance: u32) -> A
 pub fn get(words: &[u64], key: u64) -> Answer
     ensures { Answered (outcome_of words.now (Get key)) result words.now }
 {
-    let place = match place_to_read(words, key) {
-        Placed::At(place) => place,
-        Placed::Refused(refusal) => return without_store(Reply::Refused(refusal)),
-    };
+    without_store(get_reply(words, key))
+}
+
+// The reply of a get.
+fn get_reply(words: &[u64], key: u64) -> Result<Reply, Refusal>
+    ensures { said_by result ≡ getOf words.now key }
+{
+    let place = place_to_read(words, key)?;
     let base = place.base;
-    let Hit::At(slot) = find_at(words, base, place.key) else {
-        return without_store(Reply::Absent);
+    let Some(slot) = find_at(words, base, place.key) else {
+        return Ok(Reply::Absent);
     };
-    without_store(Reply::Value(words[base + 2 * slot + 1]))
+    Ok(Reply::Value(words[base + 2 * slot + 1]))
 }
 
 // Put: the value at the first hit; else value and key into a usable slot; else a split, and the put
@@ -69,8 +72,8 @@ pub fn put(words: &mut [u64], key: u64, value: u64, allowance: u32) -> Answer
     ensures { Answered (outcome_of words.old (Put key value allowance)) result words.new }
 {
     let place = match place_to_change(words, key) {
-        Placed::At(place) => place,
-        Placed::Refused(refusal) => return without_store(Reply::Refused(refusal)),
+        Ok(place) => place,
+        Err(refusal) => return without_store(Err(refusal)),
     };
     match choose_at(words, place) {
         Choice::Found(slot) => return put_value(words, place, slot, value, allowance),
@@ -78,13 +81,12 @@ pub fn put(words: &mut [u64], key: u64, value: u64, allowance: u32) -> Answer
         Choice::Full => {}
     }
     let due = match split(words, place, allowance) {
-        SplitAnswer::Due(due) => due,
-        SplitAnswer::TooDeep => return without_store(Reply::Refused(Refusal::TooDeep)),
-        SplitAnswer::NoSegment => return without_store(Reply::Refused(Refusal::NoSegment)),
+        Ok(due) => due,
+        Err(refused) => return without_store(Err(refused)),
     };
     if allowance < due {
         return Answer {
-            reply: Reply::Refused(Refusal::CutOff),
+            reply: Err(Refusal::CutOff),
             stores: allowance,
         };
     }
@@ -101,11 +103,11 @@ pub fn remove(words: &mut [u64], key: u64, allowance: u32) -> Answer
     ensures { Answered (outcome_of words.old (Remove key allowance)) result words.new }
 {
     let place = match place_to_change(words, key) {
-        Placed::At(place) => place,
-        Placed::Refused(refusal) => return without_store(Reply::Refused(refusal)),
+        Ok(place) => place,
+        Err(refusal) => return without_store(Err(refusal)),
     };
     let Choice::Found(slot) = choose_at(words, place) else {
-        return without_store(Reply::Absent);
+        return without_store(Ok(Reply::Absent));
     };
     let base = place.base;
     let due = store_word(words, base + 2 * slot, 0, allowance, 0);
@@ -118,25 +120,28 @@ pub fn merge(words: &mut [u64], key: u64, allowance: u32) -> Answer
     ensures { Answered (outcome_of words.old (Merge key allowance)) result words.new }
 {
     let place = match place_to_change(words, key) {
-        Placed::At(place) => place,
-        Placed::Refused(refusal) => return without_store(Reply::Refused(refusal)),
+        Ok(place) => place,
+        Err(refusal) => return without_store(Err(refusal)),
     };
     match merge_halves(words, place, allowance) {
-        MergeAnswer::Due(due) => after_stores(Reply::Done, allowance, due),
-        MergeAnswer::NoBuddy => without_store(Reply::Refused(Refusal::NoBuddy)),
-        MergeAnswer::BothLive => without_store(Reply::Refused(Refusal::BothLive)),
+        Ok(due) => after_stores(Reply::Done, allowance, due),
+        Err(refused) => without_store(Err(refused)),
     }
 }
 
-// Mend: each entry that differs from its block's leader gets the leader's word, from left to right.
+// Mend: each entry that differs from its block's leader gets the leader's word, from left to right. Such an
+// entry is what a mend is for: of what the scan refuses only 'broken' stops it.
 pub fn mend(words: &mut [u64], allowance: u32) -> Answer
     ensures { Answered (outcome_of words.old (Mend allowance)) result words.new }
 {
-    let HeaderRead::Valid(header) = read_header(words) else {
-        return without_store(Reply::Refused(Refusal::NoStore));
+    let header = match read_header(words) {
+        Ok(header) => header,
+        Err(refusal) => return without_store(Err(refusal)),
     };
-    if let Verdict::Broken = scan(words, header) {
-        return without_store(Reply::Refused(Refusal::Broken));
+    if let Err(refusal) = scan(words, header) {
+        if let Refusal::Broken = refusal {
+            return without_store(Err(refusal));
+        }
     }
     let due = mend_entries(words, header, allowance, 0);
     after_stores(Reply::Done, allowance, due)
@@ -148,16 +153,20 @@ pub fn mend(words: &mut [u64], allowance: u32) -> Answer
 pub fn list(words: &[u64], list: &mut [u64]) -> Answer
     ensures { Wrote (listing words.now (length list.old)) result list.old list.new }
 {
-    let header = match header_to_list(words) {
-        Listable::As(header) => header,
-        Listable::Refused(refusal) => return without_store(Reply::Refused(refusal)),
-    };
+    without_store(list_reply(words, list))
+}
+
+// The reply of a list, which writes the records.
+fn list_reply(words: &[u64], list: &mut [u64]) -> Result<Reply, Refusal>
+    ensures { ListedBy (listing words.now (length list.old)) result list.old list.new }
+{
+    let header = header_to_list(words)?;
     let count = count_records(words, header);
     if list.len() < 2 * count {
-        return without_store(Reply::Refused(Refusal::ShortList));
+        return Err(Refusal::ShortList);
     }
     write_records(words, header, list);
-    without_store(Reply::Value(count as u64))
+    Ok(Reply::Value(count as u64))
 }
 
 // List of one block: the live records of the block that `index` leads, by rising slot number; and the
@@ -166,19 +175,21 @@ pub fn list(words: &[u64], list: &mut [u64]) -> Answer
 pub fn list_block(words: &[u64], index: u64, list: &mut [u64]) -> Answer
     ensures { Wrote (list_block words.now index (length list.old)) result list.old list.new }
 {
-    let header = match header_to_list(words) {
-        Listable::As(header) => header,
-        Listable::Refused(refusal) => return without_store(Reply::Refused(refusal)),
-    };
-    let BlockFound::At(place) = find_block(words, header, index) else {
-        return without_store(Reply::Refused(Refusal::NoLeader));
-    };
+    without_store(list_block_reply(words, index, list))
+}
+
+// The reply of a list of one block, which writes its records.
+fn list_block_reply(words: &[u64], index: u64, list: &mut [u64]) -> Result<Reply, Refusal>
+    ensures { ListedBy (list_block words.now index (length list.old)) result list.old list.new }
+{
+    let header = header_to_list(words)?;
+    let place = find_block(words, header, index).ok_or(Refusal::NoLeader)?;
     let records = count_block(words, place);
     if list.len() < 2 * records {
-        return without_store(Reply::Refused(Refusal::ShortList));
+        return Err(Refusal::ShortList);
     }
     write_block(words, place, list, 0);
-    without_store(Reply::Listed(records as u64, following(header, place.next)))
+    Ok(Reply::Listed(records as u64, following(header, place.next)))
 }
 
 // One call given as data, on the index array and the list array. Only the listings touch the list array.

@@ -3,36 +3,26 @@ ghost use Rattle.std.specs.Prelude.{◌≡◌, true, ◌+◌, ◌*◌, ◌^◌, 
 ghost use Rattle.index_rules.specs.Listing.{records, words_of};
 ghost use Rattle.index_rules.specs.ListBlock.{leads, following as whatFollows};
 ghost use Rattle.index_directory.specs.Scans.{LeadersRead};
+ghost use Rattle.stores.specs.Options.{option_of};
 ghost use Rattle.stores.specs.Written.{Written};
 ghost use Rattle.index.specs.Blocks.{ListableRead, ListableBy, BlockRead, FoundAt, PlaceInside, place_records};
 
-use index_directory::scan::{Verdict, scan};
+use crate::blocks::Blocks;
+use index_directory::scan::scan;
 use index_layout::SEGMENT_WORDS;
 use index_layout::entry::{block_width, local_depth_of, segment_of};
-use index_layout::header::{Header, HeaderRead, pow2, read_header, segment_base};
+use index_layout::header::{Header, pow2, read_header, segment_base};
 use index_layout::key::{Block, block_bits};
 use index_segment::listing::{count_live, write_live};
-use replies::{Following, Refusal};
-
-// The header of an index that can be listed, or why it can't.
-#[derive(Clone, Copy)]
-pub enum Listable {
-    As(Header),
-    Refused(Refusal),
-}
+use replies::Refusal;
 
 // The tests in front of a listing: 1, and 3 and 4 for the whole directory.
-pub(crate) fn header_to_list(words: &[u64]) -> Listable
+pub(crate) fn header_to_list(words: &[u64]) -> Result<Header, Refusal>
     ensures { ListableBy result words.now }
 {
-    let HeaderRead::Valid(header) = read_header(words) else {
-        return Listable::Refused(Refusal::NoStore);
-    };
-    match scan(words, header) {
-        Verdict::Broken => Listable::Refused(Refusal::Broken),
-        Verdict::Unmended => Listable::Refused(Refusal::Unmended),
-        Verdict::Consistent => Listable::As(header),
-    }
+    let header = read_header(words)?;
+    scan(words, header)?;
+    Ok(header)
 }
 
 // A block as a listing needs it: where its segment stands, what its keys share, and the index behind
@@ -62,41 +52,31 @@ pub(crate) fn read_block(words: &[u64], header: Header, i: usize) -> BlockPlace
     }
 }
 
-// The block that an index leads, or none where it leads none.
-#[derive(Clone, Copy)]
-pub enum BlockFound {
-    At(BlockPlace),
-    NoLeader,
-}
-
-// The block that any index leads in an index that can be listed. There each entry is its leader's, so
+// The block that any index leads in an index that can be listed, or none where it leads none. There each entry is its leader's, so
 // that the entry at the index tells whether a block begins there: no second scan.
-pub(crate) fn find_block(words: &[u64], header: Header, index: u64) -> BlockFound
+pub(crate) fn find_block(words: &[u64], header: Header, index: u64) -> Option<BlockPlace>
     requires { ListableRead header words.now }
     ensures { FoundAt result words.now index }
 {
     let count = pow2(header.depth);
     if index >= count as u64 {
-        return BlockFound::NoLeader;
+        return None;
     }
     let i = index as usize;
     let local_depth = local_depth_of(words[count + i]);
     let width = block_width(header.depth, local_depth);
     if i & (width - 1) != 0 {
-        return BlockFound::NoLeader;
+        return None;
     }
-    BlockFound::At(read_block(words, header, i))
+    Some(read_block(words, header, i))
 }
 
 // What follows a block: the block at the index behind it, or none at the directory's end.
-pub(crate) fn following(header: Header, next: usize) -> Following
+pub(crate) fn following(header: Header, next: usize) -> Option<u64>
     requires { header.depth ≤ 12 }
-    ensures { result ≡ whatFollows next (2 ^ header.depth) }
+    ensures { option_of result ≡ whatFollows next (2 ^ header.depth) }
 {
-    if next < pow2(header.depth) {
-        return Following::Next(next as u64);
-    }
-    Following::Last
+    (next < pow2(header.depth)).then_some(next as u64)
 }
 
 // The number of live records of a block.
@@ -118,19 +98,14 @@ pub(crate) fn write_block(words: &[u64], place: BlockPlace, list: &mut [u64], at
     write_live(&words[base..base + SEGMENT_WORDS], place.block, list, at)
 }
 
-// The number of live records of an index whose leaders are valid. It goes from each leader to the
-// index behind its block.
+// The number of live records of an index whose leaders are valid.
 pub(crate) fn count_records(words: &[u64], header: Header) -> usize
     requires { LeadersRead header words.now }
     ensures { (result ≡ length (records words.now)) × (result ≤ 262144) }
 {
-    let count = pow2(header.depth);
     let mut total = 0;
-    let mut i = 0;
-    while i < count {
-        let place = read_block(words, header, i);
+    for place in Blocks::new(words, header) {
         total += count_block(words, place);
-        i = place.next;
     }
     total
 }
@@ -141,13 +116,9 @@ pub(crate) fn write_records(words: &[u64], header: Header, list: &mut [u64]) -> 
     requires { LeadersRead header words.now × (2 * length (records words.now) ≤ length list.old) }
     ensures { Written (words_of (records words.now)) 0 list.old result list.new }
 {
-    let count = pow2(header.depth);
     let mut at = 0;
-    let mut i = 0;
-    while i < count {
-        let place = read_block(words, header, i);
+    for place in Blocks::new(words, header) {
         at = write_block(words, place, list, at);
-        i = place.next;
     }
     at
 }

@@ -4,23 +4,23 @@ ghost use Rattle.index_rules.specs.Slots.{hit};
 ghost use Rattle.index_rules.specs.Put.{key_choice};
 ghost use Rattle.replies.specs.Replies.{changed};
 ghost use Rattle.index_layout.specs.Places.{KeyPlace};
-ghost use Rattle.index_segment.specs.Answers.{hit_of, choice_of};
+ghost use Rattle.index_segment.specs.Answers.{choice_of};
+ghost use Rattle.stores.specs.Options.{option_of};
 ghost use Rattle.replies.specs.Answered.{Answered};
 ghost use Rattle.index.specs.Slots.{value_put, record_put};
 
-use crate::answer::after_stores;
 use index_layout::SEGMENT_WORDS;
 use index_layout::key::Block;
 use index_layout::place::Place;
 use index_segment::choice::{Choice, choose};
-use index_segment::probe::{Hit, find};
-use replies::{Answer, Reply};
+use index_segment::probe::find;
+use replies::{Answer, Reply, after_stores};
 use stores::store_word;
 
 // The first slot of the key's probe window that holds the key, in the segment at `base`.
-pub(crate) fn find_at(words: &[u64], base: usize, key: u64) -> Hit
+pub(crate) fn find_at(words: &[u64], base: usize, key: u64) -> Option<usize>
     requires { base + 128 ≤ length words.now }
-    ensures { hit_of result ≡ hit words.now base key }
+    ensures { option_of result ≡ hit words.now base key }
 {
     find(&words[base..base + SEGMENT_WORDS], key)
 }

@@ -1,47 +1,38 @@
--- What the verdict of a scan tells its caller.
+-- What the answer of a scan tells its caller of the leaders.
 use mathlib.Core.Path.{◌≡◌, refl}
 use mathlib.Core.Bool.{Bool, true, false}
 use mathlib.Core.List.{List}
-use mathlib.Core.Option.{none, some}
-use Prim.Native.Nat.{ℕ}
-use native.Mathlib.Omega.{arith}
-use Rattle.replies.specs.declared.Refusal.TheVariants.{Broken as BrokenRefusal, Unmended as UnmendedRefusal}
+use mathlib.Core.Option.{some, none}
+use Rattle.std.specs.Prelude.{ℕ, Ok, Err, Result}
+use Rattle.stores.proofs.Tests.{by_test}
+use Rattle.replies.specs.declared.Refusal.{Refusal}
+use Rattle.replies.specs.declared.Refusal.TheVariants.{Broken, Unmended}
 use Rattle.index_rules.specs.Layout.{depth, segments}
 use Rattle.index_rules.specs.Scan.{leaders_valid, entries_agree}
 use Rattle.replies.specs.Replies.{unless}
 use Rattle.index_rules.specs.Put.{directory_tests}
-use Rattle.index_directory.specs.declared.scan.Verdict.{Verdict}
-use Rattle.index_directory.specs.declared.scan.Verdict.TheVariants.{Broken, Unmended, Consistent}
 use Rattle.index_directory.specs.Scans.{verdict_of}
 
--- Which of the scan's two tests hold goes by the verdict.
-tests_broken : (v t : Bool) → some BrokenRefusal ≡ unless v BrokenRefusal (unless t UnmendedRefusal none) → v ≡ false
+tests_broken : (v t : Bool) → some Broken ≡ unless v Broken (unless t Unmended none) → v ≡ false
 unfolding unless
 tests_broken false t e = refl
-tests_broken true true e = let z : ◌≡◌ {A = ℕ} 0 1 = cc in absurd (omega arith)
-tests_broken true false e = let z : ◌≡◌ {A = ℕ} 0 1 = cc in absurd (omega arith)
+tests_broken true true e = cc
+tests_broken true false e = cc
 
-tests_unmended : (v t : Bool) → some UnmendedRefusal ≡ unless v BrokenRefusal (unless t UnmendedRefusal none) → (v ≡ true) × (t ≡ false)
-unfolding unless
-tests_unmended true false e = (refl, refl)
-tests_unmended true true e = let z : ◌≡◌ {A = ℕ} 0 1 = cc in absurd (omega arith)
-tests_unmended false t e = let z : ◌≡◌ {A = ℕ} 0 1 = cc in absurd (omega arith)
+-- The scan has answered 'broken': a leader is not valid.
+pub verdict_broken : (a : List ℕ) → some Broken ≡ directory_tests a none → leaders_valid a (depth a) (segments a) ≡ false
+unfolding directory_tests
+verdict_broken a e = tests_broken (leaders_valid a (depth a) (segments a)) (entries_agree a (depth a)) e
 
-tests_consistent : (v t : Bool) → none ≡ unless v BrokenRefusal (unless t UnmendedRefusal none) → (v ≡ true) × (t ≡ true)
-unfolding unless
-tests_consistent true true e = (refl, refl)
-tests_consistent true false e = let z : ◌≡◌ {A = ℕ} 0 1 = cc in absurd (omega arith)
-tests_consistent false t e = let z : ◌≡◌ {A = ℕ} 0 1 = cc in absurd (omega arith)
-
-module _ (a : List ℕ) (r : Verdict) (e : verdict_of r ≡ directory_tests a none) where
-  pub verdict_broken : r ≡ Broken → leaders_valid a (depth a) (segments a) ≡ false
-  unfolding directory_tests
-  verdict_broken q = tests_broken (leaders_valid a (depth a) (segments a)) (entries_agree a (depth a)) (rw q at e)
-
-  pub verdict_unmended : r ≡ Unmended → (leaders_valid a (depth a) (segments a) ≡ true) × (entries_agree a (depth a) ≡ false)
-  unfolding directory_tests
-  verdict_unmended q = tests_unmended (leaders_valid a (depth a) (segments a)) (entries_agree a (depth a)) (rw q at e)
-
-  pub verdict_consistent : r ≡ Consistent → (leaders_valid a (depth a) (segments a) ≡ true) × (entries_agree a (depth a) ≡ true)
-  unfolding directory_tests
-  verdict_consistent q = tests_consistent (leaders_valid a (depth a) (segments a)) (entries_agree a (depth a)) (rw q at e)
+-- It has answered anything else: all are valid.
+pub verdict_valid : (a : List ℕ) (r : Result Unit Refusal) → verdict_of r ≡ directory_tests a none → (r ≡ Err Broken → ⊥)
+    → leaders_valid a (depth a) (segments a) ≡ true
+unfolding directory_tests unless
+verdict_valid a r e n =
+    by_test (leaders_valid a (depth a) (segments a))
+    (λ t. t)
+    (λ t. absurd (n (is_broken r (rw t at e))))
+  where
+    is_broken : (r : Result Unit Refusal) → verdict_of r ≡ some Broken → r ≡ Err Broken
+    is_broken (Ok x) e = cc
+    is_broken (Err q) e = cc

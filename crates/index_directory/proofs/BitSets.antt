@@ -11,13 +11,13 @@ use lib.ListN.{length, set, replicate, get_or-replicate, length-replicate, get_o
 use Rattle.stores.specs.Store.{word}
 use Rattle.stores.proofs.Stores.{word_set_same, word_set_other}
 use Rattle.stores.proofs.Tests.{by_test, by_equal, by_less}
-use Rattle.index_directory.specs.BitSets.{BitSet, holds, Empty, Inserted, SmallestMissing}
+use Rattle.index_directory.specs.BitSets.{holds, Empty, Inserted, SmallestMissing}
 use Rattle.index_directory.proofs.Bits.{bit, zero_bit, with_bit, with_here, with_elsewhere, full_bit, LowestZero, lowest_zero}
 
 -- ---- One number more
 
 -- The set with the number, as the code makes it.
-module _ (a : List ℕ) (number : ℕ) (l : BitSet a) (h : number < 4096) where
+module _ (a : List ℕ) (number : ℕ) (l : length a ≡ 64) (h : number < 4096) where
   abbrev with_number : List ℕ
   with_number = set a (number / 64) (with_bit (word a (number / 64)) (number % 64))
 
@@ -53,9 +53,6 @@ module _ (a : List ℕ) where
   -- Every number of the first i words is in the set.
   abbrev pub FullBelow : ℕ → Type 0
   FullBelow i = (n : ℕ) → n < 64 * i → holds a n ≡ true
-
-  pub full_none : FullBelow 0
-  full_none n h = absurd (omega arith)
 
   -- Where the first t bits of word i are 1, so many numbers more are in the set.
   module _ (i t : ℕ) (b : FullBelow i) (m : t ≤ 64) (ones : (k : ℕ) → k < t → bit (word a i) k ≡ 1) where

@@ -1,16 +1,20 @@
 -- A pass over the directory, index by index: the block that it is in, and the leader of each index.
-use mathlib.Core.Path.{◌≡◌, refl, sym, ap, ◌∙◌}
+use mathlib.Core.Path.{◌≡◌, refl, sym, ◌∙◌}
 use mathlib.Core.Bool.{Bool, true, false, ◌&&◌, true≢false}
 use mathlib.Core.List.{List}
 use mathlib.Core.Option.{none, some}
-use Prim.Native.Nat.{ℕ, ◌+◌, ◌-◌, ◌%◌, ◌^◌, ◌≤◌, ◌<◌}
+use Rattle.std.specs.Prelude.{Ok, Err}
+use Prim.Native.Nat.{ℕ, ◌+◌, ◌-◌, ◌*◌, ◌%◌, ◌^◌, ◌≤◌, ◌<◌}
 use native.Mathlib.Numerals.{add-one}
 use native.Mathlib.Omega.{arith}
 use borrow.Author.Tests.{ltb-true, ltb-false, eq-eqb}
 use lib.Dec.{ltb, eqb}
+use lib.ListN.{take, drop, get_or}
+use lib.Seq.{get_or-take, get_or-drop}
 use Rattle.stores.specs.Lists.{pick, all_below}
 use Rattle.stores.proofs.Tests.{by_test, and_true}
-use Rattle.replies.specs.declared.Refusal.TheVariants.{Broken as BrokenRefusal, Unmended as UnmendedRefusal}
+use Rattle.replies.specs.declared.Refusal.{Refusal}
+use Rattle.replies.specs.declared.Refusal.TheVariants.{Broken, Unmended}
 use Rattle.index_rules.specs.Layout.{depth, segments, entry_at, local_depth}
 use Rattle.index_rules.specs.Keys.{width}
 use Rattle.index_rules.specs.Scan.{valid_leader, leader, leading_entry, leaders_valid, entries_agree}
@@ -18,12 +22,18 @@ use Rattle.replies.specs.Replies.{unless}
 use Rattle.index_rules.specs.Put.{directory_tests}
 use Rattle.index_laws.proofs.Keys.{width_pos}
 use Rattle.index_laws.proofs.Scan.{leader_zero, led, next_leads, valid_aligned, valid_at}
+use Rattle.index_layout.specs.declared.header.Header.{Header}
+use Rattle.index_layout.specs.Headers.{Describes}
+use Rattle.index_layout.proofs.Entries.{entry_word}
 use Rattle.index_directory.specs.declared.scan.LedBlock.{LedBlock}
-use Rattle.index_directory.specs.declared.scan.Verdict.{Verdict}
-use Rattle.index_directory.specs.declared.scan.Verdict.TheVariants.{Broken}
 use Rattle.index_directory.specs.declared.scan.ScanStep.{ScanStep}
-use Rattle.index_directory.specs.declared.scan.ScanStep.TheVariants.{In, Stop}
-use Rattle.index_directory.specs.Scans.{verdict_of, block_led_by, scan_at}
+use Rattle.index_directory.specs.Scans.{block_led_by, scan_at}
+
+-- An entry of the present directory, lent as a part of the array.
+pub part_entry : {h : Header} {a : List ℕ} (d : Describes h a) (count i : ℕ) → count ≡ 2 ^ h.depth → i < count
+    → get_or (take (2 * count - count) (drop count a)) i 0 ≡ entry_at a (depth a) i
+part_entry {h} {a} d count i e k =
+    get_or-take (2 * count - count) (drop count a) i 0 (omega arith) ∙ get_or-drop count a i 0 ∙ entry_word count i d e
 
 -- A pass has come to index i. The block b of the index before, if there was one, begins at `start`, and ends at i or behind it.
 pub record Passing (a : List ℕ) (g S i : ℕ) (b : LedBlock) : Type 0 where
@@ -40,13 +50,6 @@ pub record Found (a : List ℕ) (g S i : ℕ) (b : LedBlock) : Type 0 where
   pub passing : Passing a g S (i + 1) b
   pub leading_is : leading_entry a g i ≡ b.leading
   pub leader_valid : valid_leader g S (leader a g i) (leading_entry a g i) ≡ true
-
--- The scan's flag, as the conjunction of its tests.
-pick_and : (t b : Bool) → pick t b false ≡ b && t
-pick_and true true = refl
-pick_and true false = refl
-pick_and false true = refl
-pick_and false false = refl
 
 and_unit : (b : Bool) → b && true ≡ b
 and_unit true = refl
@@ -120,101 +123,93 @@ module _ (a : List ℕ) (g S i : ℕ) (b : LedBlock) (p : Passing a g S i b) whe
       (λ t. rw t (same_block (ltb-true i b.end t)))
       (λ t. let h : b.end ≤ i = ltb-false i b.end t in rw t (new_block h (v h)))
 
-  -- A step of the scan goes on in the block of index i. It stops only where that index has a leader that is not valid.
-  pub step_in : (agree : Bool) (n : LedBlock) (still : Bool) → In n still ≡ scan_at g S i (entry_at a g i) b agree
-      → Found a g S i n × (still ≡ agree && eqb (entry_at a g i) n.leading)
+-- A step of the scan goes on in the block of index i. It stops only where that index has a leader that is not valid.
+module _ (a : List ℕ) (g S i : ℕ) (s : ScanStep) (p : Passing a g S i s.block) where
+  pub step_in : (n : ScanStep) → Ok n ≡ scan_at g S i (entry_at a g i) s
+      → Found a g S i n.block × (n.agree ≡ s.agree && eqb (entry_at a g i) n.block.leading)
   unfolding scan_at
-  step_in agree n still e =
-      by_test (ltb i b.end)
+  step_in n e =
+      by_test (ltb i s.block.end)
       (λ t.
-      let q : In n still ≡ In b (pick (eqb (entry_at a g i) b.leading) agree false) = rw t at e in
-      let o : b ≡ n = cc in
-      let u : still ≡ pick (eqb (entry_at a g i) b.leading) agree false = cc in
-      (rw o at (same_block (ltb-true i b.end t)), u ∙ pick_and (eqb (entry_at a g i) b.leading) agree ∙ rw o))
+      let q : n ≡ record { block = s.block; agree = s.agree && eqb (entry_at a g i) s.block.leading } = cc (rw t at e) in
+      rw q (same_block a g S i s.block p (ltb-true i s.block.end t), refl))
       (λ t.
       by_test (valid_leader g S i (entry_at a g i))
       (λ v.
-      let q : In n still ≡ In (block_led_by g i (entry_at a g i)) agree = rw (t, v) at e in
-      let o : block_led_by g i (entry_at a g i) ≡ n = cc in
-      let l : n.leading ≡ entry_at a g i = ap (λ (x : LedBlock). x.leading) (sym o) in
-      let u : still ≡ agree = cc in
-      (rw o at (new_block (ltb-false i b.end t) v), rw (l, eq-eqb (entry_at a g i) (entry_at a g i) refl) (u ∙ sym (and_unit agree))))
+      let q : n ≡ record { block = block_led_by g i (entry_at a g i); agree = s.agree } = cc (rw (t, v) at e) in
+      rw q (
+        new_block a g S i s.block p (ltb-false i s.block.end t) v,
+        rw (eq-eqb (entry_at a g i) (entry_at a g i) refl) (sym (and_unit s.agree)),
+      ))
       (λ v.
-      let q : In n still ≡ Stop Broken = rw (t, v) at e in
-      let z : ◌≡◌ {A = ℕ} 0 1 = cc in
-      absurd (omega arith)))
+      cc (rw (t, v) at e)))
 
-  pub step_stop : (agree : Bool) (r : Verdict) → Stop r ≡ scan_at g S i (entry_at a g i) b agree
+  pub step_stop : (r : Refusal) → Err r ≡ scan_at g S i (entry_at a g i) s
       → (r ≡ Broken) × (valid_leader g S (leader a g i) (leading_entry a g i) ≡ false)
   unfolding scan_at
-  step_stop agree r e =
-      by_test (ltb i b.end)
+  step_stop r e =
+      by_test (ltb i s.block.end)
       (λ t.
-      let q : Stop r ≡ In b (pick (eqb (entry_at a g i) b.leading) agree false) = rw t at e in
-      let z : ◌≡◌ {A = ℕ} 0 1 = cc in
-      absurd (omega arith))
+      cc (rw t at e))
       (λ t.
       by_test (valid_leader g S i (entry_at a g i))
       (λ v.
-      let q : Stop r ≡ In (block_led_by g i (entry_at a g i)) agree = rw (t, v) at e in
-      let z : ◌≡◌ {A = ℕ} 0 1 = cc in
-      absurd (omega arith))
-      (λ v.
-      let q : Stop r ≡ Stop Broken = rw (t, v) at e in
-      (cc, rw (leads_itself (ltb-false i b.end t)) v)))
+      cc (rw (t, v) at e))
+      (λ v. (cc (rw (t, v) at e), rw (leads_itself a g S i s.block p (ltb-false i s.block.end t)) v)))
 
 -- ---- The scan's verdict
 
--- Of the indices below i every leader is valid, and `agree` says whether every entry equals its leader's.
-pub record Scanned (a : List ℕ) (g S i : ℕ) (b : LedBlock) (agree : Bool) : Type 0 where
-  pub passing : Passing a g S i b
+-- Of the indices below i every leader is valid, and the flag says whether every entry equals its leader's.
+pub record Scanned (a : List ℕ) (g S i : ℕ) (s : ScanStep) : Type 0 where
+  pub passing : Passing a g S i s.block
   pub leaders_valid_holds : all_below (λ j. valid_leader g S (leader a g j) (leading_entry a g j)) i ≡ true
-  pub agreeing : agree ≡ all_below (λ j. eqb (entry_at a g j) (leading_entry a g j)) i
+  pub agreeing : s.agree ≡ all_below (λ j. eqb (entry_at a g j) (leading_entry a g j)) i
 
-pub scan_start : (a : List ℕ) (g S : ℕ) → Scanned a g S 0 (record { leading = 0; end = 0 }) true
+pub scan_start : (a : List ℕ) (g S : ℕ) → Scanned a g S 0 (record { block = record { leading = 0; end = 0 }; agree = true })
 unfolding all_below
 scan_start a g S = record { passing = at_start a g S; leaders_valid_holds = refl; agreeing = refl }
 
-pub scan_goes_on : (a : List ℕ) (g S i : ℕ) (b n : LedBlock) (agree still : Bool) (t : ScanStep) → Scanned a g S i b agree
-    → t ≡ In n still → t ≡ scan_at g S i (entry_at a g i) b agree → Scanned a g S (i + 1) n still
+pub scan_goes_on : (a : List ℕ) (g S i : ℕ) (s n : ScanStep) → Scanned a g S i s
+    → Ok n ≡ scan_at g S i (entry_at a g i) s → Scanned a g S (i + 1) n
 unfolding all_below
-scan_goes_on a g S i b n agree still t s q e =
-    let f = step_in a g S i b s.passing agree n still (sym q ∙ e) in
+scan_goes_on a g S i s n k e =
+    let f = step_in a g S i s k.passing n e in
     record {
       passing = f.0.passing;
-      leaders_valid_holds = rw add-one (and_true s.leaders_valid_holds f.0.leader_valid);
-      agreeing = f.1 ∙ rw (add-one, s.agreeing, f.0.leading_is);
+      leaders_valid_holds = rw add-one (and_true k.leaders_valid_holds f.0.leader_valid);
+      agreeing = f.1 ∙ rw (add-one, k.agreeing, f.0.leading_is);
     }
 
-module _ (a : List ℕ) where
-  pub verdict_of_broken : leaders_valid a (depth a) (segments a) ≡ false → some BrokenRefusal ≡ directory_tests a none
-  unfolding directory_tests unless
-  verdict_of_broken e = rw e
+-- What a step answers at the entry that it reads in the directory, lent as a part of the array.
+pub scan_read : {h : Header} {a : List ℕ} (d : Describes h a) (count i : ℕ) → count ≡ 2 ^ h.depth → i < count → (s : ScanStep)
+    → scan_at h.depth h.segments i (get_or (take (2 * count - count) (drop count a)) i 0) s
+    ≡ scan_at (depth a) (segments a) i (entry_at a (depth a) i) s
+scan_read d count i e k s = rw (part_entry d count i e k, d.depth_read, d.segments_read)
 
+module _ (a : List ℕ) (i : ℕ) (s : ScanStep) (k : Scanned a (depth a) (segments a) i s) where
   -- A leader that is not valid decides.
-  pub scan_stops : (i : ℕ) (b : LedBlock) (agree : Bool) (r : Verdict) (t : ScanStep) → i < 2 ^ depth a → Scanned a (depth a) (segments a) i b agree
-      → t ≡ Stop r → t ≡ scan_at (depth a) (segments a) i (entry_at a (depth a) i) b agree → verdict_of r ≡ directory_tests a none
-  scan_stops i b agree r t h s q e =
-      let p = step_stop a (depth a) (segments a) i b s.passing agree r (sym q ∙ e) in
-      rw p.0
-      (verdict_of_broken
-      (by_test (leaders_valid a (depth a) (segments a))
+  pub scan_stops : (r : Refusal) → i < 2 ^ depth a → Err r ≡ scan_at (depth a) (segments a) i (entry_at a (depth a) i) s
+      → some r ≡ directory_tests a none
+  unfolding directory_tests unless
+  scan_stops r h e =
+      let p = step_stop a (depth a) (segments a) i s k.passing r e in
+      by_test (leaders_valid a (depth a) (segments a))
       (λ t. absurd (true≢false (sym (valid_at a (depth a) (segments a) i t h) ∙ p.1)))
-      (λ t. t)))
+      (λ t. rw (t, p.0))
 
-  module _ (i : ℕ) (b : LedBlock) (agree : Bool) (end : i ≡ 2 ^ depth a) (s : Scanned a (depth a) (segments a) i b agree) where
-    pub all_valid : leaders_valid a (depth a) (segments a) ≡ true
+  module _ (end : i ≡ 2 ^ depth a) where
+    all_valid : leaders_valid a (depth a) (segments a) ≡ true
     unfolding leaders_valid
-    all_valid = rw end at s.leaders_valid_holds
+    all_valid = rw end at k.leaders_valid_holds
 
-    all_agree_holds : agree ≡ entries_agree a (depth a)
+    all_agree_holds : s.agree ≡ entries_agree a (depth a)
     unfolding entries_agree
-    all_agree_holds = rw end at s.agreeing
+    all_agree_holds = rw end at k.agreeing
 
-    pub ends_consistent : agree ≡ true → none ≡ directory_tests a none
+    pub ends_consistent : s.agree ≡ true → none ≡ directory_tests a none
     unfolding directory_tests unless
     ends_consistent e = rw (all_valid, sym all_agree_holds ∙ e)
 
-    pub ends_unmended : agree ≡ false → some UnmendedRefusal ≡ directory_tests a none
+    pub ends_unmended : s.agree ≡ false → some Unmended ≡ directory_tests a none
     unfolding directory_tests unless
     ends_unmended e = rw (all_valid, sym all_agree_holds ∙ e)

@@ -1,5 +1,6 @@
 -- The definitions of `specs/` on small cases, which antt computes.
 use Prim.Native.Nat.{ℕ}
+use Rattle.std.specs.Prelude.{Result, Ok, Err}
 use lib.Dec.{lit<, lit≤}
 use mathlib.Core.Path.{◌≡◌, refl, sym}
 use mathlib.Core.Bool.{Bool, true, false, false≢true}
@@ -8,15 +9,14 @@ use mathlib.Core.Option.{Option, none, some}
 use Rattle.stores.specs.Lists.{each, first_in, any_below}
 use Rattle.stores.specs.Store.{store}
 use Rattle.replies.specs.declared.Refusal.{Refusal}
+use Rattle.replies.specs.declared.Refusal.TheVariants.{Broken, Unmended}
 use Rattle.index_rules.specs.Layout.{depth_in, segments_in, entry_address, segment_of, local_depth}
 use Rattle.index_rules.specs.Keys.{width}
 use Rattle.index_rules.specs.Scan.{in_range, valid_leader}
 use Rattle.index_rules.specs.Slots.{named}
 use Rattle.replies.specs.Replies.{number_of}
-use Rattle.index_directory.specs.declared.scan.Verdict.TheVariants.{Broken, Unmended}
 use Rattle.index_directory.specs.declared.scan.LedBlock.{LedBlock}
 use Rattle.index_directory.specs.declared.scan.ScanStep.{ScanStep}
-use Rattle.index_directory.specs.declared.scan.ScanStep.TheVariants.{In, Stop}
 use Rattle.index_directory.specs.Scans.{verdict_of, scan_at}
 use Rattle.index_directory.specs.BitSets.{holds}
 use Rattle.index_directory.specs.Frees.{free_in, HoldsNamed}
@@ -27,7 +27,7 @@ abbrev number : Option Refusal → ℕ
 number (some r) = number_of r
 number none = 0
 
-pub verdicts : ◌≡◌ {A = List ℕ} (number (verdict_of Broken) ∷ number (verdict_of Unmended) ∷ []) (3 ∷ 4 ∷ [])
+pub verdicts : ◌≡◌ {A = List ℕ} (number (verdict_of (Err Broken)) ∷ number (verdict_of (Err Unmended)) ∷ []) (3 ∷ 4 ∷ [])
 verdicts = refl
 
 -- At G = 2, in the block (0, depth 1) of indices 0 and 1: an equal entry, an unequal one, and behind the block a leader that
@@ -35,9 +35,13 @@ verdicts = refl
 abbrev left : LedBlock
 left = record { leading = 0x100000000; end = 2 }
 
-pub steps : ◌≡◌ {A = List ScanStep}
-    (scan_at 2 4 1 0x100000000 left true ∷ scan_at 2 4 1 0x100000001 left true ∷ scan_at 2 4 2 0x100000001 left false ∷ scan_at 2 4 2 1 left true ∷ [])
-    (In left true ∷ In left false ∷ In (record { leading = 0x100000001; end = 4 }) false ∷ Stop Broken ∷ [])
+abbrev in_left : Bool → ScanStep
+in_left agree = record { block = left; agree = agree }
+
+pub steps : ◌≡◌ {A = List (Result ScanStep Refusal)}
+    (scan_at 2 4 1 0x100000000 (in_left true) ∷ scan_at 2 4 1 0x100000001 (in_left true) ∷ scan_at 2 4 2 0x100000001 (in_left false)
+    ∷ scan_at 2 4 2 1 (in_left true) ∷ [])
+    (Ok (in_left true) ∷ Ok (in_left false) ∷ Ok (record { block = record { leading = 0x100000001; end = 4 }; agree = false }) ∷ Err Broken ∷ [])
 unfolding scan_at valid_leader in_range segment_of local_depth width
 steps = refl
 

@@ -6,14 +6,16 @@ use mathlib.Core.Option.{none, some}
 use Prim.Native.Nat.{ℕ, ◌+◌, ◌^◌, ◌≤◌, ◌<◌}
 use native.Mathlib.Numerals.{add-one}
 use native.Mathlib.Omega.{arith}
-use borrow.Author.Tests.{lt-ltb, le-ltb, ltb-true, eqb-true, ne_eqb}
+use borrow.Author.Tests.{lt-ltb, le-ltb, ltb-true, ltb-false}
 use lib.Dec.{eqb, ltb}
+use Rattle.std.specs.Bool.{then_some}
 use Rattle.stores.specs.Lists.{any_below}
+use Rattle.stores.specs.Options.{option_of}
 use Rattle.stores.proofs.Numbers.{first_same_below, first_nowhere, first_at}
 use Rattle.stores.proofs.Tests.{by_test}
 use Rattle.index_rules.specs.Layout.{depth, segments, entry_at, segment_of}
 use Rattle.index_rules.specs.Slots.{named, free_segment}
-use Rattle.index_directory.specs.BitSets.{holds, Empty, Inserted, SmallestMissing}
+use Rattle.index_directory.specs.BitSets.{holds, Empty, SmallestMissing}
 use Rattle.index_directory.specs.Frees.{free_in, NotedEntry, HoldsNamed}
 
 -- ---- The pass
@@ -37,24 +39,6 @@ one_more_holds true false true = refl
 one_more_holds true false false = refl
 one_more_holds false x y = refl
 
--- One entry, which names n: below S, or not.
-module _ (e S n : ℕ) (Named-by : n ≡ segment_of e) where
-  pub noted_below : (before after : List ℕ) → n < S → Inserted n before after → NotedEntry e S before after
-  noted_below before after h i s =
-      let same : eqb n s ≡ (ltb s S && eqb (segment_of e) s) =
-      by_test (eqb n s)
-      (λ t. let l : s < S = rw (← eqb-true n s t) h in rw (← Named-by, t, lt-ltb s S l))
-      (λ t. rw (← Named-by, t) (sym (and_none (ltb s S)))) in
-      i s ∙ ap (λ (t : Bool). t || holds before s) same
-
-  pub noted_not : (before : List ℕ) → S ≤ n → NotedEntry e S before before
-  noted_not before h s =
-      by_test (ltb s S)
-      (λ t.
-      let l : s < S = ltb-true s S t in
-      rw (t, ← Named-by, ne_eqb n s (λ q. omega arith)))
-      (λ t. rw t)
-
 module _ (a : List ℕ) where
   pub noted_none : (noted : List ℕ) → Empty noted → NotedBelow a noted 0
   unfolding any_below
@@ -77,13 +61,17 @@ module _ (a : List ℕ) where
 -- ---- The answer
 
 module _ {noted : List ℕ} {r : ℕ} (m : SmallestMissing r noted) (S : ℕ) where
-  pub free_there : r < S → some r ≡ free_in noted S
+  free_there : r < S → some r ≡ free_in noted S
   unfolding free_in
   free_there h = sym (first_at (λ s. not (holds noted s)) S r h (λ s k. ap not (m.below_held s k)) (ap not m.missing))
 
-  pub free_nowhere : S ≤ r → none ≡ free_in noted S
+  free_nowhere : S ≤ r → none ≡ free_in noted S
   unfolding free_in
   free_nowhere h = sym (first_nowhere (λ s. not (holds noted s)) S (λ s k. ap not (m.below_held s (omega arith))))
+
+  pub free_answer : option_of (then_some (ltb r S) r) ≡ free_in noted S
+  free_answer =
+      by_test (ltb r S) (λ t. rw t (free_there (ltb-true r S t))) (λ t. rw t (free_nowhere (ltb-false r S t)))
 
 -- The answer from what the pass notes is the smallest segment that no entry names.
 pub free_named : {noted a : List ℕ} (S : ℕ) → HoldsNamed noted a → segments a ≡ S → free_in noted S ≡ free_segment a

@@ -1,5 +1,5 @@
 -- What the search for the buddy answers, and what the code of a joined block's entries asks and stores.
-use Rattle.std.specs.Prelude.{ℕ, suc, ◌+◌, ◌^◌, ◌≤◌, ◌<◌, ◌≡◌, true, false, List, leb, length}
+use Rattle.std.specs.Prelude.{Option, Some, None, ℕ, suc, ◌+◌, ◌^◌, ◌≤◌, ◌<◌, ◌≡◌, true, false, List, leb, length}
 use Rattle.stores.specs.Lists.{pick}
 use Rattle.stores.specs.Store.{Store}
 use Rattle.index_rules.specs.Layout.{depth}
@@ -9,8 +9,6 @@ use Rattle.index_rules.specs.Merge.{right_start, joined_start, joining, key_budd
 use Rattle.index_layout.specs.declared.place.Place.{Place}
 use Rattle.index_directory.specs.declared.buddy.Starts.{Starts}
 use Rattle.index_directory.specs.declared.buddy.Pair.{Pair}
-use Rattle.index_directory.specs.declared.buddy.Paired.{Paired}
-use Rattle.index_directory.specs.declared.buddy.Paired.TheVariants.{Halves, NoBuddy}
 use Rattle.index_directory.specs.declared.join.JoinedBlock.{JoinedBlock}
 
 -- ---- The buddy
@@ -33,9 +31,9 @@ pub record PairAt (pair : Pair) (p : Place) (a : List ℕ) : Type 0 where
   pub start_is : joined_start a (index p.key (depth a)) (key_entry a p.key) ≡ pair.start
 
 -- What the search answers.
-abbrev pub PairedBy : Paired → Place → List ℕ → Type 0
-PairedBy (Halves pair) p a = PairAt pair p a
-PairedBy NoBuddy p a = key_buddy a p.key ≡ false
+abbrev pub PairedBy : Option Pair → Place → List ℕ → Type 0
+PairedBy (Some pair) p a = PairAt pair p a
+PairedBy None p a = key_buddy a p.key ≡ false
 
 -- ---- The entries of a joined block
 

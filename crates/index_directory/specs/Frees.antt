@@ -1,17 +1,10 @@
 -- What the search for a free segment notes, and what it answers.
 use Rattle.std.specs.Prelude.{ℕ, ◌≤◌, ◌<◌, ◌≡◌, false, not, ◌&&◌, ◌||◌, List, [], ◌∷◌, eqb, ltb}
-use Rattle.std.proofs.Math.Option.{Option, none, some}
+use Rattle.std.proofs.Math.Option.{Option}
 use Rattle.stores.specs.Lists.{each, first_in}
 use Rattle.index_rules.specs.Layout.{segments, segment_of}
 use Rattle.index_rules.specs.Slots.{named}
-use Rattle.index_directory.specs.declared.free.Free.{Free}
-use Rattle.index_directory.specs.declared.free.Free.TheVariants.{Segment, Nothing}
 use Rattle.index_directory.specs.BitSets.{holds}
-
--- The segment that was found, or none.
-abbrev pub free_of : Free → Option ℕ
-free_of (Segment s) = some s
-free_of Nothing = none
 
 -- Besides what it held, the set holds the segment that entry e names, if that is below S, and nothing else.
 abbrev pub NotedEntry : (e S : ℕ) → List ℕ → List ℕ → Type 0

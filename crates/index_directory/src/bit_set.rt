@@ -1,36 +1,47 @@
-// A set of the numbers below 4,096 in words of 64 bits: which numbers it holds says specs/BitSets.antt.
+// A set of the numbers below 4,096 as bits of words: which numbers it holds says specs/BitSets.antt.
 ghost use Rattle.std.specs.Prelude.{◌<◌};
-ghost use Rattle.index_directory.specs.BitSets.{BitSet, Inserted, SmallestMissing};
+ghost use Rattle.index_directory.specs.BitSets.{Empty, Inserted, SmallestMissing};
 
 // The bits of a word.
 const WORD_BITS: usize = 64;
 
-// The words of a set. The empty set is all zeros.
-pub const SET_WORDS: usize = 64;
+// The words of a set.
+const SET_WORDS: usize = 64;
 
-// A word all of whose numbers are in the set.
-const FULL_WORD: u64 = 0xFFFFFFFFFFFFFFFF;
-
-// Puts the number into the set, where it may be already (document 02, wish 8: notes it).
-pub fn insert(set: &mut [u64], number: usize)
-    requires { BitSet set.old × (number < 4096) }
-    ensures { Inserted number set.old set.new }
-{
-    let at = number / WORD_BITS;
-    set[at] |= 1u64 << (number % WORD_BITS);
+// Number n is in the set where bit n mod 64 of word n / 64 is 1.
+#[derive(Clone, Copy)]
+pub struct BitSet {
+    pub words: [u64; SET_WORDS],
 }
 
-// The smallest number that is not in the set, which is 4,096 where all below it are: in the first word
-// that is not full, its lowest bit that is 0.
-pub fn smallest_missing(set: &[u64]) -> usize
-    requires { BitSet set.now }
-    ensures { SmallestMissing result set.now }
-{
-    for i in 0..SET_WORDS {
-        let word = set[i];
-        if word != FULL_WORD {
-            return WORD_BITS * i + u64::trailing_zeros(!word) as usize;
-        }
+impl BitSet {
+    // The empty set.
+    pub fn new() -> BitSet
+        ensures { Empty result.words }
+    {
+        let words = [0; SET_WORDS];
+        BitSet { words }
     }
-    WORD_BITS * SET_WORDS
+
+    // Puts the number into the set, where it may be already (document 02, wish 8: notes it).
+    pub fn insert(&mut self, number: usize)
+        requires { number < 4096 }
+        ensures { Inserted number self.old.words self.new.words }
+    {
+        let at = number / WORD_BITS;
+        self.words[at] |= 1u64 << (number % WORD_BITS);
+    }
+
+    // The smallest number that is not in the set, which is 4,096 where all below it are: in the first word
+    // that is not full, its lowest bit that is 0.
+    pub fn smallest_missing(&self) -> usize
+        ensures { SmallestMissing result self.now.words }
+    {
+        for (i, word) in self.words.iter().enumerate() {
+            if *word != u64::MAX {
+                return WORD_BITS * i + word.trailing_ones() as usize;
+            }
+        }
+        WORD_BITS * SET_WORDS
+    }
 }

@@ -25,13 +25,6 @@ pub struct Pair {
     pub start: usize,
 }
 
-// The two halves of the block one depth shallower than a key's, or none of the same depth.
-#[derive(Clone, Copy)]
-pub enum Paired {
-    Halves(Pair),
-    NoBuddy,
-}
-
 // Where the halves of the block of local depth `local_depth` begin that holds index `i`.
 fn starts_of(i: usize, depth: u32, local_depth: u32) -> Starts
     requires { (local_depth < depth) × (depth ≤ 12) × (i < 2 ^ depth) }
@@ -70,24 +63,24 @@ fn pair_of(starts: Starts, i: usize, own: usize, other: usize) -> Pair
     }
 }
 
-// The key's block and its buddy, by the key's own entry and the one at the buddy's first index. A block
-// that fills the directory has none, and nothing is read for it. Whether the rest of the directory is
+// The key's block and its buddy, by the key's own entry and the one at the buddy's first index; none where
+// that entry has another depth. A block that fills the directory has none, and nothing is read for it. Whether the rest of the directory is
 // consistent does not matter.
-pub fn find_pair(words: &[u64], place: Place) -> Paired
+pub fn find_pair(words: &[u64], place: Place) -> Option<Pair>
     requires { KeyPlace place words.now }
     ensures { PairedBy result place words.now }
 {
     let depth = place.header.depth;
     let local_depth = place.local_depth;
     if local_depth == 0 {
-        return Paired::NoBuddy;
+        return None;
     }
     let i = directory_index(place.bits, depth);
     let starts = starts_of(i, depth, local_depth - 1);
     let at = pow2(depth) + buddy_index(starts, i);
     let entry = words[at];
     if local_depth_of(entry) != local_depth {
-        return Paired::NoBuddy;
+        return None;
     }
-    Paired::Halves(pair_of(starts, i, place.segment, segment_of(entry)))
+    Some(pair_of(starts, i, place.segment, segment_of(entry)))
 }

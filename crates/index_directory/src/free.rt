@@ -1,63 +1,53 @@
 // The search for a free segment: one pass over the entries notes the segments that they name in a set,
 // and the answer is read from the set.
 ghost use Rattle.std.specs.Prelude.{◌≡◌, ◌≤◌};
+ghost use Rattle.stores.specs.Options.{option_of};
 ghost use Rattle.index_rules.specs.Slots.{free_segment};
 ghost use Rattle.index_layout.specs.Headers.{Describes};
-ghost use Rattle.index_directory.specs.BitSets.{BitSet, Empty};
-ghost use Rattle.index_directory.specs.Frees.{free_of, free_in, NotedEntry, HoldsNamed};
+ghost use Rattle.index_directory.specs.BitSets.{Empty};
+ghost use Rattle.index_directory.specs.Frees.{free_in, NotedEntry, HoldsNamed};
 
-use crate::bit_set::{SET_WORDS, insert, smallest_missing};
+use crate::bit_set::BitSet;
 use index_layout::entry::segment_of;
 use index_layout::header::{Header, pow2};
 
-// A free segment, if there is one.
-#[derive(Clone, Copy)]
-pub enum Free {
-    Segment(usize),
-    Nothing,
-}
-
 // Notes the segment that the entry names, if it is below S: an entry can name any number of 32 bits.
-fn note_entry(set: &mut [u64], entry: u64, segments: usize)
-    requires { BitSet set.old × (segments ≤ 4096) }
-    ensures { NotedEntry entry segments set.old set.new }
+fn note_entry(set: &mut BitSet, entry: u64, segments: usize)
+    requires { segments ≤ 4096 }
+    ensures { NotedEntry entry segments set.old.words set.new.words }
 {
     let segment = segment_of(entry);
     if segment < segments {
-        insert(set, segment);
+        set.insert(segment);
     }
 }
 
 // Notes in the empty set the segments that the entries of the present directory name: the one pass.
-pub fn note_named(words: &[u64], header: Header, set: &mut [u64])
-    requires { Describes header words.now × BitSet set.old × Empty set.old }
-    ensures { HoldsNamed set.new words.now }
+pub fn note_named(words: &[u64], header: Header, set: &mut BitSet)
+    requires { Describes header words.now × Empty set.old.words }
+    ensures { HoldsNamed set.new.words words.now }
 {
     let count = pow2(header.depth);
     let segments = header.segments as usize;
-    for i in 0..count {
-        note_entry(set, words[count + i], segments);
+    for entry in &words[count..2 * count] {
+        note_entry(set, *entry, segments);
     }
 }
 
 // The answer from the set and S alone.
-pub fn free_in(set: &[u64], segments: usize) -> Free
-    requires { BitSet set.now }
-    ensures { free_of result ≡ free_in set.now segments }
+pub fn free_in(set: &BitSet, segments: usize) -> Option<usize>
+    ensures { option_of result ≡ free_in set.now.words segments }
 {
-    let number = smallest_missing(set);
-    if number < segments {
-        return Free::Segment(number);
-    }
-    Free::Nothing
+    let number = set.smallest_missing();
+    (number < segments).then_some(number)
 }
 
 // The smallest segment number below S that no entry of the present directory names.
-pub fn free_segment(words: &[u64], header: Header) -> Free
+pub fn free_segment(words: &[u64], header: Header) -> Option<usize>
     requires { Describes header words.now }
-    ensures { free_of result ≡ free_segment words.now }
+    ensures { option_of result ≡ free_segment words.now }
 {
-    let mut set = [0u64; SET_WORDS];
+    let mut set = BitSet::new();
     note_named(words, header, &mut set);
     free_in(&set, header.segments as usize)
 }

@@ -5,16 +5,9 @@ ghost use Rattle.index_rules.specs.Put.{directory_tests};
 ghost use Rattle.index_layout.specs.Headers.{Describes};
 ghost use Rattle.index_directory.specs.Scans.{verdict_of, scan_at};
 
-use index_layout::entry::{Entry, block_width, open_entry};
+use index_layout::entry::{block_width, open_entry};
 use index_layout::header::{Header, pow2};
-
-// A leader is not valid; all are, but an entry differs from its leader; or neither.
-#[derive(Clone, Copy)]
-pub enum Verdict {
-    Broken,
-    Unmended,
-    Consistent,
-}
+use replies::Refusal;
 
 // The block that a pass over the directory is in: its leading entry, and the index behind it.
 #[derive(Clone, Copy)]
@@ -23,66 +16,56 @@ pub struct LedBlock {
     pub end: usize,
 }
 
-// Where a scan stands behind an entry: in a block, and whether every entry so far equals its
-// leader's; or at its end.
+// Where a scan stands behind an entry: the block that it is in, and whether every entry so far equals its
+// leader's.
 #[derive(Clone, Copy)]
-pub enum ScanStep {
-    In(LedBlock, bool),
-    Stop(Verdict),
+pub struct ScanStep {
+    pub block: LedBlock,
+    pub agree: bool,
 }
 
 // Scans entry `i`. It is in the block of the entry before, until that ends, and then leads one. An
 // unequal entry does not stop the scan: a leader that is not valid may stand behind it.
-fn scan_entry(block: LedBlock, agree: bool, entry: u64, i: usize, header: Header) -> ScanStep
+fn scan_entry(before: ScanStep, entry: u64, i: usize, header: Header) -> Result<ScanStep, Refusal>
     requires { (header.depth ≤ 12) × (i < 4096) }
-    ensures { result ≡ scan_at header.depth header.segments i entry block agree }
+    ensures { result ≡ scan_at header.depth header.segments i entry before }
 {
+    let block = before.block;
     if i < block.end {
-        if entry == block.leading {
-            return ScanStep::In(block, agree);
-        }
-        return ScanStep::In(block, false);
+        let agree = before.agree && entry == block.leading;
+        return Ok(ScanStep { block, agree });
     }
-    let depth = header.depth;
-    let Entry::At {
-        segment: _,
-        depth: local_depth,
-    } = open_entry(entry, depth, header.segments)
-    else {
-        return ScanStep::Stop(Verdict::Broken);
-    };
-    let width = block_width(depth, local_depth);
+    let opened = open_entry(entry, header.depth, header.segments)?;
+    let width = block_width(header.depth, opened.depth);
     if i & (width - 1) != 0 {
-        return ScanStep::Stop(Verdict::Broken);
+        return Err(Refusal::Broken);
     }
     let end = i + width;
-    let next = LedBlock {
+    let block = LedBlock {
         leading: entry,
         end,
     };
-    ScanStep::In(next, agree)
+    Ok(ScanStep {
+        block,
+        agree: before.agree,
+    })
 }
 
-// One pass over the entries of the present directory.
-pub fn scan(words: &[u64], header: Header) -> Verdict
+// One pass over the entries of the present directory: a leader is not valid, which is 'broken'; all are,
+// but an entry differs from its leader, which is 'unmended'; or neither.
+pub fn scan(words: &[u64], header: Header) -> Result<(), Refusal>
     requires { Describes header words.now }
     ensures { verdict_of result ≡ directory_tests words.now none }
 {
     let count = pow2(header.depth);
-    let mut block = LedBlock { leading: 0, end: 0 };
-    let mut agree = true;
-    for i in 0..count {
-        match scan_entry(block, agree, words[count + i], i, header) {
-            ScanStep::In(next, still) => {
-                block = next;
-                agree = still;
-            }
-            ScanStep::Stop(verdict) => return verdict,
-        }
+    let block = LedBlock { leading: 0, end: 0 };
+    let mut step = ScanStep { block, agree: true };
+    for (i, entry) in words[count..2 * count].iter().enumerate() {
+        step = scan_entry(step, *entry, i, header)?;
     }
-    if agree {
-        Verdict::Consistent
+    if step.agree {
+        Ok(())
     } else {
-        Verdict::Unmended
+        Err(Refusal::Unmended)
     }
 }

@@ -13,7 +13,8 @@ use lib.ListN.{length, replicate}
 use Rattle.stores.specs.Written.{at_front}
 use Rattle.stores.proofs.Tests.{by_test}
 use Rattle.replies.specs.declared.Refusal.TheVariants.{CutOff}
-use Rattle.replies.specs.declared.Reply.TheVariants.{Done, Value, Refused}
+use Rattle.std.specs.Prelude.{Ok, Err}
+use Rattle.replies.specs.declared.Reply.TheVariants.{Done, Value}
 use Rattle.replies.specs.declared.Answer.{Answer}
 use Rattle.replies.specs.Replies.{Said, done, is_refusal, says_damage}
 use Rattle.index_rules.specs.declared.Call.{Call}
@@ -164,7 +165,7 @@ two_pages_calm = refl
 abbrev four_words : List ℕ
 four_words = (step (behind two_pages).array (replicate 4 0) ListCall).list
 
-two_pages_listed : Performed ListCall (behind two_pages).array (replicate 4 0) (record { reply = Value 2; stores = 0 }) (behind two_pages).array four_words
+two_pages_listed : Performed ListCall (behind two_pages).array (replicate 4 0) (record { reply = Ok (Value 2); stores = 0 }) (behind two_pages).array four_words
 unfolding computed next finish
 two_pages_listed = record { answered = record { reply = refl; stores = refl; words = refl }; list = refl }
 
@@ -173,7 +174,7 @@ pub list_has_map : ListIsMap
     × ListsMap (behind two_pages).map (records (behind two_pages).array)
     × (2 ≡ length (records (behind two_pages).array))
 list_has_map is-map =
-    is-map (behind two_pages) (covered two_pages two_pages_valid) two_pages_calm (replicate 4 0) (record { reply = Value 2; stores = 0 })
+    is-map (behind two_pages) (covered two_pages two_pages_valid) two_pages_calm (replicate 4 0) (record { reply = Ok (Value 2); stores = 0 })
     (behind two_pages).array four_words 2 two_pages_listed refl
 
 pub parts_have_map : PartsAreMap
@@ -246,7 +247,7 @@ format_performed =
       allowance = 67;
       before = replicate 520 7;
       list = [];
-      answer = record { reply = Done; stores = 67 };
+      answer = record { reply = Ok Done; stores = 67 };
       list_after = [];
       performed = record { answered = record { reply = refl; stores = refl; words = refl }; list = refl };
       says_done = refl;
@@ -259,13 +260,13 @@ link_of a call answer =
 
 -- A done put of 7; and one of 23 that is cut between value and key, with the mend behind it.
 abbrev done_put : Link
-done_put = link_of formatted (Put 7 70 2) (record { reply = Done; stores = 2 })
+done_put = link_of formatted (Put 7 70 2) (record { reply = Ok Done; stores = 2 })
 
 abbrev cut_link : Link
-cut_link = link_of done_put.after (Put 23 230 1) (record { reply = Refused CutOff; stores = 1 })
+cut_link = link_of done_put.after (Put 23 230 1) (record { reply = Err CutOff; stores = 1 })
 
 abbrev mend_link : Link
-mend_link = link_of cut_link.after (Mend 1) (record { reply = Done; stores = 0 })
+mend_link = link_of cut_link.after (Mend 1) (record { reply = Ok Done; stores = 0 })
 
 -- The point behind the two puts.
 abbrev behind_puts : Point
@@ -288,7 +289,7 @@ unfolding computed next finish
 page_got =
     record {
       list = [];
-      answer = record { reply = Value 70; stores = 0 };
+      answer = record { reply = Ok (Value 70); stores = 0 };
       after = behind_puts.array;
       list_after = [];
       performed = record { answered = record { reply = refl; stores = refl; words = refl }; list = refl };

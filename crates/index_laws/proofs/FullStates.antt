@@ -10,7 +10,7 @@ use lib.ListN.{length, replicate}
 use Rattle.stores.specs.Lists.{each}
 use Rattle.stores.specs.Store.{Store, store, apply}
 use Rattle.replies.specs.declared.Refusal.TheVariants.{TooDeep, NoSegment}
-use Rattle.replies.specs.declared.Reply.TheVariants.{Refused}
+use Rattle.std.specs.Prelude.{Err}
 use Rattle.replies.specs.Replies.{done, refused}
 use Rattle.index_rules.specs.declared.Call.TheVariants.{Format}
 use Rattle.index_rules.specs.Layout.{max_depth, segments, local_depth, key_at}
@@ -94,14 +94,14 @@ short_put : PutForWantOfSpace → ForWantOfSpace 1030 (refused 6) short_left
 unfolding computed short_left
 short_put put = put short [] 1030 10300 69
 
-deep_performed : Performed (P1030 140) deep [] (record { reply = Refused TooDeep; stores = 140 }) deep_left []
+deep_performed : Performed (P1030 140) deep [] (record { reply = Err TooDeep; stores = 140 }) deep_left []
 unfolding computed deep_left
 deep_performed = record { answered = record { reply = refl; stores = refl; words = refl }; list = refl }
 
 deep_answered : PerformedForWantOfSpace → ForWantOfSpace 1030 (refused 5) deep_left
 deep_answered performed = performed 1030 10300 140 deep [] _ deep_left [] deep_performed
 
-short_performed : Performed (P1030 69) short [] (record { reply = Refused NoSegment; stores = 69 }) short_left []
+short_performed : Performed (P1030 69) short [] (record { reply = Err NoSegment; stores = 69 }) short_left []
 unfolding computed short_left
 short_performed = record { answered = record { reply = refl; stores = refl; words = refl }; list = refl }
 

@@ -5,7 +5,7 @@ use Prim.Native.Nat.{ℕ, zero, suc, ◌^◌}
 use mathlib.Core.Path.{◌≡◌, refl, sym, ap, ◌∙◌}
 use mathlib.Core.Bool.{true, false}
 use mathlib.Core.List.{List, [], ◌∷◌, ◌++◌}
-use mathlib.Core.Option.{none, some, some-injective}
+use mathlib.Core.Option.{Option, none, some, some-injective}
 use native.Mathlib.Omega.{arith}
 use lib.Dec.{lit≤, lit<}
 use lib.ListN.{replicate}
@@ -14,9 +14,9 @@ use Rattle.stores.specs.Store.{store, apply, word}
 use Rattle.stores.specs.Plan.{Outcome}
 use Rattle.stores.specs.Difference.{SameBut, address_behind}
 use Rattle.replies.specs.declared.Refusal.TheVariants.{CutOff}
-use Rattle.replies.specs.declared.Following.TheVariants.{Next, Last}
 use Rattle.replies.specs.declared.Reply.{Reply}
-use Rattle.replies.specs.declared.Reply.TheVariants.{Done, Value, Listed, Refused}
+use Rattle.std.specs.Prelude.{Some, None, Ok, Err}
+use Rattle.replies.specs.declared.Reply.TheVariants.{Done, Value, Listed}
 use Rattle.replies.specs.declared.Answer.{Answer}
 use Rattle.replies.specs.Replies.{Said, done, refused, is_refusal, says_damage}
 use Rattle.index_rules.specs.declared.Call.TheVariants.{Put, Merge, Mend, List as ListCall, ListBlock}
@@ -86,7 +86,7 @@ two = apply (word₀ 1 2 2 ∷ entry₁ 0 0 1 ∷ entry₁ 1 1 1 ∷ slot 28 7 +
 
 -- An answer with this reply and no store.
 abbrev answering : Reply → Answer
-answering reply = record { reply = reply; stores = 0 }
+answering reply = record { reply = Ok reply; stores = 0 }
 
 -- The words of the two pages, in two list arrays that held other words.
 abbrev listed_in₄ : List ℕ
@@ -193,12 +193,12 @@ joined_so joins =
     let same : g.parts ≡ parts = some-injective g.parts parts (sym g.gathered ∙ two_gathered) in
     rw same at g.full
 
-first_block : BlockPerformed two 0 (7 ∷ 70 ∷ []) (Next 1)
+first_block : BlockPerformed two 0 (7 ∷ 70 ∷ []) (some 1)
 unfolding computed
 first_block =
     record {
       list = replicate 128 0;
-      answer = answering (Listed 1 (Next 1));
+      answer = answering (Listed 1 (Some 1));
       after = two;
       list_after = 7 ∷ 70 ∷ replicate 126 0;
       performed = record { answered = record { reply = refl; stores = refl; words = refl }; list = refl };
@@ -207,12 +207,12 @@ first_block =
       words = refl;
     }
 
-second_block : BlockPerformed two 1 (23 ∷ 230 ∷ []) Last
+second_block : BlockPerformed two 1 (23 ∷ 230 ∷ []) none
 unfolding computed
 second_block =
     record {
       list = 5 ∷ 6 ∷ [];
-      answer = answering (Listed 1 Last);
+      answer = answering (Listed 1 None);
       after = two;
       list_after = 23 ∷ 230 ∷ [];
       performed = record { answered = record { reply = refl; stores = refl; words = refl }; list = refl };
@@ -243,11 +243,11 @@ other_list f = omega (arith, ap (λ (l : List ℕ). word l 1) (f.list (replicate
 abbrev empty : List ℕ
 empty = apply (word₀ 0 2 1 ∷ []) (replicate 136 0)
 
-put_cut : Performed (Put 7 70 1) empty [] (record { reply = Refused CutOff; stores = 1 }) (apply (store 65 70 ∷ []) empty) []
+put_cut : Performed (Put 7 70 1) empty [] (record { reply = Err CutOff; stores = 1 }) (apply (store 65 70 ∷ []) empty) []
 unfolding computed
 put_cut = record { answered = record { reply = refl; stores = refl; words = refl }; list = refl }
 
-put_done : Performed (Put 7 70 2) empty [] (record { reply = Done; stores = 2 }) (apply (store 65 70 ∷ store 64 7 ∷ []) empty) []
+put_done : Performed (Put 7 70 2) empty [] (record { reply = Ok Done; stores = 2 }) (apply (store 65 70 ∷ store 64 7 ∷ []) empty) []
 unfolding computed
 put_done = record { answered = record { reply = refl; stores = refl; words = refl }; list = refl }
 
@@ -259,8 +259,8 @@ pub one_more_made : OneMorePerformed
     → AtMostOneWord (apply (store 65 70 ∷ []) empty) (apply (store 65 70 ∷ store 64 7 ∷ []) empty)
     × SameBut 64 (apply (store 65 70 ∷ []) empty) (apply (store 65 70 ∷ store 64 7 ∷ []) empty)
 one_more_made more =
-    rw next_address_holds at (more (Put 7 70 1) empty [] (record { reply = Refused CutOff; stores = 1 }) (apply (store 65 70 ∷ []) empty) []
-    (record { reply = Done; stores = 2 }) (apply (store 65 70 ∷ store 64 7 ∷ []) empty) [] put_cut put_done)
+    rw next_address_holds at (more (Put 7 70 1) empty [] (record { reply = Err CutOff; stores = 1 }) (apply (store 65 70 ∷ []) empty) []
+    (record { reply = Ok Done; stores = 2 }) (apply (store 65 70 ∷ store 64 7 ∷ []) empty) [] put_cut put_done)
 
 pub allowed_more : OneMoreAllowed → AtMostOneWord (step empty [] (Put 7 70 1)).outcome.after (step empty [] (Put 7 70 2)).outcome.after
 allowed_more one = one empty [] (Put 7 70 1)
@@ -278,19 +278,19 @@ two_words d = differ d.address d.same
 
 -- ---- Another value
 
-other_cut : Performed (Put 7 71 1) empty [] (record { reply = Refused CutOff; stores = 1 }) (apply (store 65 71 ∷ []) empty) []
+other_cut : Performed (Put 7 71 1) empty [] (record { reply = Err CutOff; stores = 1 }) (apply (store 65 71 ∷ []) empty) []
 unfolding computed
 other_cut = record { answered = record { reply = refl; stores = refl; words = refl }; list = refl }
 
 -- What the two puts, cut between value and key, have answered and left.
 abbrev answered : (value : ℕ) → Outcome Said
-answered value = outcome_by (record { reply = Refused CutOff; stores = 1 }) (apply (store 65 value ∷ []) empty)
+answered value = outcome_by (record { reply = Err CutOff; stores = 1 }) (apply (store 65 value ∷ []) empty)
 
 pub other_value_made : OtherValuePerformed
     → SameButOneWord (answered 70) (answered 71) × (NotStored (answered 70) (answered 71) ⊎ Stored 7 70 71 (answered 70) (answered 71))
 other_value_made other =
-    other 7 70 71 1 empty [] (record { reply = Refused CutOff; stores = 1 }) (apply (store 65 70 ∷ []) empty) []
-    (record { reply = Refused CutOff; stores = 1 }) (apply (store 65 71 ∷ []) empty) [] put_cut other_cut
+    other 7 70 71 1 empty [] (record { reply = Err CutOff; stores = 1 }) (apply (store 65 70 ∷ []) empty) []
+    (record { reply = Err CutOff; stores = 1 }) (apply (store 65 71 ∷ []) empty) [] put_cut other_cut
 
 pub other_value_same : OtherValue → SameButOneWord (step empty [] (Put 7 70 2)).outcome (step empty [] (Put 7 71 2)).outcome
 other_value_same other = other empty [] 7 70 71 2

@@ -17,8 +17,6 @@ use Rattle.stores.proofs.Tests.{by_test, or_cases}
 use Rattle.stores.proofs.Written.{at_front_words, at_front_length}
 use Rattle.replies.specs.declared.Refusal.{Refusal}
 use Rattle.replies.specs.declared.Refusal.TheVariants.{NoLeader}
-use Rattle.replies.specs.declared.Following.{Following}
-use Rattle.replies.specs.declared.Following.TheVariants.{Next, Last}
 use Rattle.replies.specs.Replies.{listed, refused, refuse, number_of, is_refusal, says_damage, said_by, unless}
 use Rattle.replies.specs.Writing.{Writing, behind_tests}
 use Rattle.index_rules.specs.declared.Call.TheVariants.{List as ListCall, ListBlock}
@@ -117,13 +115,13 @@ led_words a l i count e =
     rw size (at_front_words (words_of (records_led a i)) l)
 
 -- A listing of a block that is done: its tests have passed, and it has said and left the block's.
-record BlockDone (a l : List ℕ) (i count : ℕ) (f : Following) : Type 0 where
+record BlockDone (a l : List ℕ) (i count : ℕ) (f : Option ℕ) : Type 0 where
   pub passed : BlockPassed a i (length l)
   pub records_led_holds : count ≡ length (records_led a i)
   pub following : f ≡ following_led a i
   pub left : (step a l (ListBlock i)).list ≡ at_front (words_of (records_led a i)) l
 
-block_done : (a l : List ℕ) (i count : ℕ) (f : Following) → (step a l (ListBlock i)).outcome.reply ≡ listed count f → BlockDone a l i count f
+block_done : (a l : List ℕ) (i count : ℕ) (f : Option ℕ) → (step a l (ListBlock i)).outcome.reply ≡ listed count f → BlockDone a l i count f
 unfolding step effect list_block behind_tests
 block_done a l i count f says = go (list_block_tests a i (length l)) refl
   where
@@ -136,17 +134,17 @@ block_done a l i count f says = go (list_block_tests a i (length l)) refl
         absurd (let z : ◌≡◌ {A = ℕ} 0 1 = cc in omega arith)
 
 -- The next index that it names is never 0, which in the calls for C says that the block was the last.
-pub next_not_0 : (a l : List ℕ) (i count j : ℕ) → (step a l (ListBlock i)).outcome.reply ≡ listed count (Next j) → j ≡ 0 → ⊥
+pub next_not_0 : (a l : List ℕ) (i count j : ℕ) → (step a l (ListBlock i)).outcome.reply ≡ listed count (some j) → j ≡ 0 → ⊥
 unfolding following
 next_not_0 a l i count j says zero_there =
-    let d : Next j ≡ following_led a i = (block_done a l i count (Next j) says).following in
+    let d : some j ≡ following_led a i = (block_done a l i count (some j) says).following in
     by_test (ltb (behind_led a i) (2 ^ depth a))
     (λ e.
-    let same : Next j ≡ Next (behind_led a i) = d ∙ rw e refl in
+    let same : some j ≡ some (behind_led a i) = d ∙ rw e refl in
     let n : j ≡ behind_led a i = cc in
     omega (arith, width_pos (depth a) (local_depth (entry_at a (depth a) i))))
     (λ e.
-    let same : Next j ≡ Last = d ∙ rw e refl in
+    let same : some j ≡ none = d ∙ rw e refl in
     let z : ◌≡◌ {A = ℕ} 0 1 = cc in
     omega arith)
 
@@ -184,7 +182,7 @@ module _ (a : List ℕ) (v : leaders_valid a (depth a) (segments a) ≡ true) (i
       }
 
   -- What follows it: the next leader, or the end.
-  follows : ((following_led a i ≡ Next (behind_led a i)) × (leads a (behind_led a i) ≡ true)) ⊎ ((following_led a i ≡ Last) × (behind_led a i ≡ 2 ^ depth a))
+  follows : ((following_led a i ≡ some (behind_led a i)) × (leads a (behind_led a i) ≡ true)) ⊎ ((following_led a i ≡ none) × (behind_led a i ≡ 2 ^ depth a))
   unfolding following
   follows =
       let t = leads_at a i lead in
@@ -221,7 +219,7 @@ module _ (a : List ℕ) (passed : listing_tests a none ≡ none) where
       let size : length (at_front (words_of (records_led a i)) l) ≡ length l =
       at_front_length (words_of (records_led a i)) l (omega (arith, length_words (records_led a i), block_small a i (entry_at a (depth a) i))) in
       ⊎_elim
-      (λ (f : (following_led a i ≡ Next (behind_led a i)) × (leads a (behind_led a i) ≡ true)).
+      (λ (f : (following_led a i ≡ some (behind_led a i)) × (leads a (behind_led a i) ≡ true)).
       let rest = gathered_from_holds n (behind_led a i) (at_front (words_of (records_led a i)) l) f.1
       (omega (arith, next_behind a v i b.below b.own)) (rw size enough) in
       record {
@@ -229,7 +227,7 @@ module _ (a : List ℕ) (passed : listing_tests a none ≡ none) where
         gathered = rw (said, left, f.0, rest.gathered, words);
         listed_so = listed_block a v i lead rest.parts rest.listed_so;
       })
-      (λ (f : (following_led a i ≡ Last) × (behind_led a i ≡ 2 ^ depth a)).
+      (λ (f : (following_led a i ≡ none) × (behind_led a i ≡ 2 ^ depth a)).
       record {
         parts = words_of (records_led a i) ∷ [];
         gathered = rw (said, left, f.0, words);
@@ -258,36 +256,36 @@ joined_listing a l m enough h =
 -- ---- The same over performed calls
 
 -- The part that a performed listing of a block left is the block's.
-block_performed : (a : List ℕ) (i : ℕ) (part : List ℕ) (f : Following) (b : BlockPerformed a i part f)
+block_performed : (a : List ℕ) (i : ℕ) (part : List ℕ) (f : Option ℕ) (b : BlockPerformed a i part f)
     → BlockDone a b.list i b.count f × (part ≡ words_of (records_led a i))
 block_performed a i part f b =
-    let d = block_done a b.list i b.count f (sym b.performed.answered.reply ∙ ap said_by b.says) in
+    let d = block_done a b.list i b.count f (sym b.performed.answered.reply ∙ b.says) in
     (d, b.words ∙ ap (take (2 * b.count)) (b.performed.list ∙ d.left) ∙ led_words a b.list i b.count d.records_led_holds)
 
 performed_from : (a : List ℕ) (parts : List (List ℕ)) (i : ℕ) (part : List ℕ) → PartsPerformed a i part parts → ListedFrom a i (part ∷ parts)
 performed_from a [] i part b =
-    let d = block_performed a i part Last b in
+    let d = block_performed a i part none b in
     let p = d.0.passed in
     rw d.1
     (listed_block a p.leaders i p.leader []
     (⊎_elim
-    (λ (f : (following_led a i ≡ Next (behind_led a i)) × (leads a (behind_led a i) ≡ true)).
-    let e : Last ≡ Next (behind_led a i) = d.0.following ∙ f.0 in
+    (λ (f : (following_led a i ≡ some (behind_led a i)) × (leads a (behind_led a i) ≡ true)).
+    let e : none ≡ some (behind_led a i) = d.0.following ∙ f.0 in
     absurd (let z : ◌≡◌ {A = ℕ} 0 1 = cc in omega arith))
-    (λ (f : (following_led a i ≡ Last) × (behind_led a i ≡ 2 ^ depth a)). listed_none a (behind_led a i) f.1)
+    (λ (f : (following_led a i ≡ none) × (behind_led a i ≡ 2 ^ depth a)). listed_none a (behind_led a i) f.1)
     (follows a p.leaders i p.leader)))
 performed_from a (q ∷ qs) i part (j, b, rest) =
-    let d = block_performed a i part (Next j) b in
+    let d = block_performed a i part (some j) b in
     let p = d.0.passed in
     rw d.1
     (listed_block a p.leaders i p.leader (q ∷ qs)
     (⊎_elim
-    (λ (f : (following_led a i ≡ Next (behind_led a i)) × (leads a (behind_led a i) ≡ true)).
-    let e : Next j ≡ Next (behind_led a i) = d.0.following ∙ f.0 in
+    (λ (f : (following_led a i ≡ some (behind_led a i)) × (leads a (behind_led a i) ≡ true)).
+    let e : some j ≡ some (behind_led a i) = d.0.following ∙ f.0 in
     let here : j ≡ behind_led a i = cc in
     rw here at (performed_from a qs j q rest))
-    (λ (f : (following_led a i ≡ Last) × (behind_led a i ≡ 2 ^ depth a)).
-    let e : Next j ≡ Last = d.0.following ∙ f.0 in
+    (λ (f : (following_led a i ≡ none) × (behind_led a i ≡ 2 ^ depth a)).
+    let e : some j ≡ none = d.0.following ∙ f.0 in
     absurd (let z : ◌≡◌ {A = ℕ} 0 1 = cc in omega arith))
     (follows a p.leaders i p.leader)))
 

@@ -3,11 +3,9 @@ use Prim.Native.Nat.{ℕ, ◌+◌}
 use mathlib.Core.Path.{◌≡◌, refl}
 use mathlib.Core.Bool.{true}
 use mathlib.Core.List.{List, [], ◌∷◌, ◌++◌}
-use mathlib.Core.Option.{none, some}
+use mathlib.Core.Option.{Option, none, some}
 use Rattle.stores.specs.Lists.{each}
 use Rattle.stores.specs.Store.{Store, store}
-use Rattle.replies.specs.declared.Following.{Following}
-use Rattle.replies.specs.declared.Following.TheVariants.{Next, Last}
 use Rattle.replies.specs.Replies.{listed, refused}
 use Rattle.index_rules.specs.declared.Call.{Call}
 use Rattle.index_rules.specs.declared.Call.TheVariants.{Format, ListBlock}
@@ -18,7 +16,7 @@ use Rattle.index_laws.proofs.Compared.{Compared, gathers, all_agree}
 use Rattle.index_laws.proofs.Samples.{entry₃, old_store, moved, page_words, three_depths, mixed_orders}
 
 -- The block at index i lists these words, and this follows; `behind` words more are lent, which stay.
-abbrev lists : List Call → List Store → (i count : ℕ) → Following → (words : List ℕ) → (behind : ℕ) → Row
+abbrev lists : List Call → List Store → (i count : ℕ) → Option ℕ → (words : List ℕ) → (behind : ℕ) → Row
 lists before damage i count f words behind = listed_by (ListBlock i) before damage (listed count f) words behind
 
 -- The call with index i and `room` words is refused with n.
@@ -52,15 +50,15 @@ pub list_block_states : List Row
 unfolding each
 list_block_states =
     -- blocks of three depths, each with what follows it; a stale record is not listed
-    lists three mixed_orders 0 2 (Next 4) (1025 ∷ 10250 ∷ 5 ∷ 50 ∷ []) 3
-    ∷ lists three mixed_orders 4 2 (Next 6) (80 ∷ 800 ∷ 31 ∷ 310 ∷ []) 124
-    ∷ lists three mixed_orders 6 2 (Next 7) (306 ∷ 3060 ∷ 50 ∷ 500 ∷ []) 1
+    lists three mixed_orders 0 2 (some 4) (1025 ∷ 10250 ∷ 5 ∷ 50 ∷ []) 3
+    ∷ lists three mixed_orders 4 2 (some 6) (80 ∷ 800 ∷ 31 ∷ 310 ∷ []) 124
+    ∷ lists three mixed_orders 6 2 (some 7) (306 ∷ 3060 ∷ 50 ∷ 500 ∷ []) 1
     -- the last block
-    ∷ lists three mixed_orders 7 1 Last (112 ∷ 1120 ∷ []) 126
+    ∷ lists three mixed_orders 7 1 none (112 ∷ 1120 ∷ []) 126
     -- a list array just right, and one word short: 10 by the block's records, whatever the index has
-    ∷ lists three mixed_orders 0 2 (Next 4) (1025 ∷ 10250 ∷ 5 ∷ 50 ∷ []) 0
+    ∷ lists three mixed_orders 0 2 (some 4) (1025 ∷ 10250 ∷ 5 ∷ 50 ∷ []) 0
     ∷ refuses three mixed_orders 0 3 10
-    ∷ lists three mixed_orders 7 1 Last (112 ∷ 1120 ∷ []) 0
+    ∷ lists three mixed_orders 7 1 none (112 ∷ 1120 ∷ []) 0
     ∷ refuses three mixed_orders 7 1 10
     -- 16 for an index inside a block, 2^G, one behind it, and the largest
     ∷ refuses three mixed_orders 1 128 16
@@ -73,24 +71,24 @@ list_block_states =
     ∷ refuses three mixed_orders 1 0 16
     ∷ refuses three mixed_orders 8 0 16
     -- blocks of depth 3, 3, 2 and 1 that splits have made: the first has sixteen pages
-    ∷ lists three_depths [] 0 16 (Next 1) (page_words 7 128 8 ++ page_words 1030 128 8) 0
-    ∷ lists three_depths [] 1 2 (Next 2) (449 ∷ 4490 ∷ 67 ∷ 670 ∷ []) 124
-    ∷ lists three_depths [] 2 1 (Next 4) (37 ∷ 370 ∷ []) 0
-    ∷ lists three_depths [] 4 2 Last (146 ∷ 1460 ∷ 25 ∷ 250 ∷ []) 0
+    ∷ lists three_depths [] 0 16 (some 1) (page_words 7 128 8 ++ page_words 1030 128 8) 0
+    ∷ lists three_depths [] 1 2 (some 2) (449 ∷ 4490 ∷ 67 ∷ 670 ∷ []) 124
+    ∷ lists three_depths [] 2 1 (some 4) (37 ∷ 370 ∷ []) 0
+    ∷ lists three_depths [] 4 2 none (146 ∷ 1460 ∷ 25 ∷ 250 ∷ []) 0
     ∷ refuses three_depths [] 0 31 10
     ∷ refuses three_depths [] 3 128 16
     -- behind known state e, whose records have moved: nine pages left, eight right
-    ∷ lists moved [] 0 9 (Next 1) (7 ∷ 70 ∷ 263 ∷ 2630 ∷ page_words 39 32 7) 2
-    ∷ lists moved [] 1 8 Last (page_words 23 32 8) 0
+    ∷ lists moved [] 0 9 (some 1) (7 ∷ 70 ∷ 263 ∷ 2630 ∷ page_words 39 32 7) 2
+    ∷ lists moved [] 1 8 none (page_words 23 32 8) 0
     ∷ refuses moved [] 1 15 10
     -- an empty block has room in no words; one in which every slot is live takes all of 128
-    ∷ lists (F 4 ∷ []) empty_right 0 1 (Next 1) (7 ∷ 70 ∷ []) 0
-    ∷ lists (F 4 ∷ []) empty_right 1 0 Last [] 0
-    ∷ lists (F 4 ∷ []) empty_right 1 0 Last [] 128
+    ∷ lists (F 4 ∷ []) empty_right 0 1 (some 1) (7 ∷ 70 ∷ []) 0
+    ∷ lists (F 4 ∷ []) empty_right 1 0 none [] 0
+    ∷ lists (F 4 ∷ []) empty_right 1 0 none [] 128
     ∷ refuses (F 4 ∷ []) empty_right 2 0 16
-    ∷ lists (F 4 ∷ []) [] 0 0 Last [] 0
+    ∷ lists (F 4 ∷ []) [] 0 0 none [] 0
     ∷ refuses (F 4 ∷ []) [] 1 0 16
-    ∷ lists (F 4 ∷ []) all_live_holds 0 64 Last (page_words 1 1 64) 0
+    ∷ lists (F 4 ∷ []) all_live_holds 0 64 none (page_words 1 1 64) 0
     ∷ refuses (F 4 ∷ []) all_live_holds 0 127 10
     -- an unmended directory is 4 at every index, also where no leader is or no word is lent; a split cut between its entries too
     ∷ refuses three (mixed_with (entry₃ 1 0 1 ∷ [])) 0 128 4

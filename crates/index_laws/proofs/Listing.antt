@@ -14,8 +14,9 @@ use Rattle.replies.specs.declared.Refusal.TheVariants.{NoStore, Broken, Unmended
 use Rattle.replies.specs.declared.Refusal.{Refusal}
 use Rattle.replies.specs.Replies.{done, refuse, is_done, says_damage, unless}
 use Rattle.replies.specs.Writing.{behind_tests}
-use Rattle.replies.specs.declared.Reply.TheVariants.{Value, Listed}
-use Rattle.replies.proofs.Sayable.{GivenBy, Sayable, by, unless_given, writing_sayable}
+use Rattle.std.specs.Prelude.{Ok}
+use Rattle.replies.specs.declared.Reply.TheVariants.{Value}
+use Rattle.replies.proofs.Sayable.{GivenBy, Sayable, by, listed_sayable, unless_given, writing_sayable}
 use Rattle.index_rules.specs.Given.{has}
 use Rattle.replies.proofs.Writings.{writing_passed, writing_nothing, writing_fits}
 use Rattle.index_rules.specs.declared.Call.{Call}
@@ -124,13 +125,13 @@ pub list_late : (a : List ℕ) → listing_tests a none ≡ none → (room : ℕ
 unfolding list list_tests has
 list_late a passed room =
     rw (listing_goes_on a (room_test (records a) room) passed)
-    (writing_sayable late _ _ (room_given late (records a) room refl) (by late (Value _) Prim.tt))
+    (writing_sayable late _ _ (room_given late (records a) room refl) (by late (Ok (Value _)) Prim.tt))
 
 pub list_block_late : (a : List ℕ) → listing_tests a none ≡ none → (i room : ℕ) → Sayable late (list_block a i room).reply
 unfolding list_block list_block_tests has
 list_block_late a passed i room =
     rw (listing_goes_on a (unless (leads a i) NoLeader (room_test (records_led a i) room)) passed)
-    (writing_sayable late _ _ (unless_given late (leads a i) NoLeader _ refl (room_given late (records_led a i) room refl)) (by late (Listed _ _) Prim.tt))
+    (writing_sayable late _ _ (unless_given late (leads a i) NoLeader _ refl (room_given late (records_led a i) room refl)) (listed_sayable late _ _))
 
 -- The block's tests: the index leads, and the block's records have room.
 pub record BlockPassed (a : List ℕ) (i room : ℕ) : Type 0 where

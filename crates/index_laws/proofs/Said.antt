@@ -13,11 +13,12 @@ use Rattle.stores.specs.Plan.{Plan}
 use Rattle.stores.proofs.Tests.{and_left, and_right, or_cases}
 use Rattle.replies.specs.declared.Refusal.{Refusal}
 use Rattle.replies.specs.declared.Refusal.TheVariants.{NoStore, NoKey, Broken, Unmended, TooDeep, NoSegment, BadShape, TooShort, NoBuddy, BothLive, NoLeader}
-use Rattle.replies.specs.declared.Reply.TheVariants.{Done, Value, Listed, Absent, Refused}
+use Rattle.std.specs.Prelude.{Ok, Err}
+use Rattle.replies.specs.declared.Reply.TheVariants.{Done, Value, Absent}
 use Rattle.index_rules.specs.declared.Call.{Call}
 use Rattle.index_rules.specs.declared.Call.TheVariants.{Format, Get, Put, Remove, Merge, Mend, List as ListCall, ListBlock}
 use Rattle.replies.specs.Replies.{Said, refused}
-use Rattle.replies.proofs.Sayable.{GivenBy, Sayable, by, unless_given, tested_sayable, replied_sayable, writing_sayable, changed_sayable, refused_given}
+use Rattle.replies.proofs.Sayable.{GivenBy, Sayable, by, listed_sayable, unless_given, tested_sayable, replied_sayable, writing_sayable, changed_sayable, refused_given}
 use Rattle.index_rules.specs.Layout.{valid_shape, words_for, valid_header, depth, segments}
 use Rattle.index_rules.specs.Keys.{index}
 use Rattle.index_rules.specs.Scan.{in_range, leaders_valid, entries_agree}
@@ -57,24 +58,24 @@ module _ (may : ℕ → Bool) (a : List ℕ) where
 module _ (may : ℕ → Bool) where
   value_at_hit_sayable : (a : List ℕ) (base : ℕ) (h : Option ℕ) → Sayable may (value_at_hit a base h)
   unfolding value_at_hit
-  value_at_hit_sayable a base none = by may Absent Prim.tt
-  value_at_hit_sayable a base (some j) = by may (Value _) Prim.tt
+  value_at_hit_sayable a base none = by may (Ok Absent) Prim.tt
+  value_at_hit_sayable a base (some j) = by may (Ok (Value _)) Prim.tt
 
   cleared_at_sayable : (base : ℕ) (h : Option ℕ) → Sayable may (cleared_at base h).reply
   unfolding cleared_at
-  cleared_at_sayable base none = by may Absent Prim.tt
-  cleared_at_sayable base (some j) = by may Done Prim.tt
+  cleared_at_sayable base none = by may (Ok Absent) Prim.tt
+  cleared_at_sayable base (some j) = by may (Ok Done) Prim.tt
 
   placed_sayable : (base key value : ℕ) (c : Choice) (p : Plan Said) → Sayable may p.reply → Sayable may (placed base key value c p).reply
   unfolding placed
-  placed_sayable base key value (found j) p s = by may Done Prim.tt
-  placed_sayable base key value (into j) p s = by may Done Prim.tt
+  placed_sayable base key value (found j) p s = by may (Ok Done) Prim.tt
+  placed_sayable base key value (into j) p s = by may (Ok Done) Prim.tt
   placed_sayable base key value full p s = s
 
   into_free_sayable : (n : Option ℕ) (split : ℕ → Plan Said) → may 6 ≡ true → ((m : ℕ) → Sayable may (split m).reply)
       → Sayable may (into_free n split).reply
   unfolding into_free
-  into_free_sayable none split g s = by may (Refused NoSegment) g
+  into_free_sayable none split g s = by may (Err NoSegment) g
   into_free_sayable (some m) split g s = s m
 
 -- What a put says is what any put can give, whatever its key, value and allowance.
@@ -85,7 +86,7 @@ put_unused_sayable : (u : ℕ) (a : List ℕ) (key value : ℕ) → Sayable put_
 unfolding put_unused put_tests gives refusals_of has
 put_unused_sayable zero a key value =
     tested_sayable put_gives (put_tests a key) _ (key_given put_gives a key _ refl refl (directory_given put_gives a none refl refl Prim.tt))
-    (placed_sayable put_gives (key_segment a key) key value (key_choice a key) _ (by put_gives (Refused TooDeep) refl))
+    (placed_sayable put_gives (key_segment a key) key value (key_choice a key) _ (by put_gives (Err TooDeep) refl))
 put_unused_sayable (suc u) a key value =
     tested_sayable put_gives (put_tests a key) _ (key_given put_gives a key _ refl refl (directory_given put_gives a none refl refl Prim.tt))
     (placed_sayable put_gives (key_segment a key) key value (key_choice a key) _
@@ -117,7 +118,7 @@ effect_sayable a room (Format D S allowance) =
     let may = gives (Format D S allowance) in
     tested_sayable may _ _
     (unless_given may (valid_shape D S) BadShape _ refl (unless_given may (leb (words_for D S) (length a)) TooShort none refl Prim.tt))
-    (by may Done Prim.tt)
+    (by may (Ok Done) Prim.tt)
 effect_sayable a room (Get key) =
     let may = gives (Get key) in
     replied_sayable may _ _
@@ -136,20 +137,20 @@ effect_sayable a room (Merge key allowance) =
     (directory_given may a _ refl refl
     (unless_given may (has_buddy a i (key_entry a key)) NoBuddy _ refl
     (unless_given may (not (both_live_at a i (key_entry a key))) BothLive none refl Prim.tt))))
-    (by may Done Prim.tt)
+    (by may (Ok Done) Prim.tt)
 effect_sayable a room (Mend allowance) =
     let may = gives (Mend allowance) in
     tested_sayable may _ _
     (unless_given may (valid_header a) NoStore _ refl (unless_given may (leaders_valid a (depth a) (segments a)) Broken none refl Prim.tt))
-    (by may Done Prim.tt)
+    (by may (Ok Done) Prim.tt)
 effect_sayable a room ListCall =
     let may = gives ListCall in
-    writing_sayable may _ _ (listing_given may a _ refl refl refl (room_given may (records a) room refl)) (by may (Value _) Prim.tt)
+    writing_sayable may _ _ (listing_given may a _ refl refl refl (room_given may (records a) room refl)) (by may (Ok (Value _)) Prim.tt)
 effect_sayable a room (ListBlock i) =
     let may = gives (ListBlock i) in
     writing_sayable may _ _
     (listing_given may a _ refl refl refl (unless_given may (leads a i) NoLeader _ refl (room_given may (records_led a i) room refl)))
-    (by may (Listed _ _) Prim.tt)
+    (listed_sayable may _ _)
 
 pub step_sayable : (a l : List ℕ) (call : Call) → Sayable (gives call) (step a l call).outcome.reply
 unfolding step

@@ -3,7 +3,6 @@ use mathlib.Core.Path.{◌≡◌, refl}
 use mathlib.Core.Bool.{Bool, true, not, ◌&&◌}
 use mathlib.Core.List.{List, [], ◌∷◌}
 use mathlib.Core.Option.{none, some}
-use Rattle.replies.specs.declared.Following.TheVariants.{Last}
 use Rattle.replies.specs.Replies.{done, listed, refused}
 use Rattle.index_rules.specs.declared.Call.TheVariants.{Remove, List as ListCall, ListBlock}
 use Rattle.index_rules.proofs.Table.{Row, buckets, indexed, all_pass}
@@ -32,7 +31,7 @@ wrong_rows =
     ∷ listed_by ListCall (F 4 ∷ []) (slot 28 7) (done (2 ∷ [])) (7 ∷ 70 ∷ []) 2
     ∷ listed_by ListCall (F 4 ∷ []) (slot 28 7) (done (1 ∷ [])) (7 ∷ 71 ∷ []) 2
     ∷ listed_by ListCall (F 4 ∷ []) (slot 28 7) (done (1 ∷ [])) (7 ∷ 70 ∷ 6 ∷ []) 2
-    ∷ listed_by (ListBlock 0) (F 4 ∷ []) (slot 28 7) (listed 2 Last) (7 ∷ 70 ∷ []) 0
+    ∷ listed_by (ListBlock 0) (F 4 ∷ []) (slot 28 7) (listed 2 none) (7 ∷ 70 ∷ []) 0
     ∷ []
 
 pub none_passes_holds : none_passes wrong_rows ≡ true

@@ -2,11 +2,8 @@
 -- answers are the full listing; and the two calls give 1, 3 and 4 on the same arrays.
 use Rattle.std.specs.Prelude.{ℕ, zero, suc, ◌*◌, ◌^◌, ◌≤◌, ◌≡◌, true, false, List, [], ◌∷◌, ◌++◌, length, take}
 use Rattle.std.proofs.Math.Option.{Option, none, some}
-use Rattle.replies.specs.declared.Following.{Following}
-use Rattle.replies.specs.declared.Following.TheVariants.{Next, Last}
-use Rattle.replies.specs.declared.Reply.TheVariants.{Listed}
 use Rattle.replies.specs.declared.Answer.{Answer}
-use Rattle.replies.specs.Replies.{Said, done, listed, absent, refused, is_refusal, says_damage}
+use Rattle.replies.specs.Replies.{Said, done, listed, absent, refused, said_by, is_refusal, says_damage}
 use Rattle.index_rules.specs.declared.Call.TheVariants.{List as ListCall, ListBlock}
 use Rattle.index_rules.specs.Layout.{depth}
 use Rattle.index_rules.specs.Scan.{leaders}
@@ -38,8 +35,8 @@ in_front p (some ps) = some (p ∷ ps)
 -- What is gathered from an answer on that says `said` and leaves the list array l: the words of its records, and where it names a
 -- next index, what is gathered later from there on. None where it is refused.
 unfoldable pub gathered_from : Said → (l : List ℕ) → (later : ℕ → Option (List (List ℕ))) → Option (List (List ℕ))
-gathered_from (listed count (Next j)) l later = in_front (take (2 * count) l) (later j)
-gathered_from (listed count Last) l later = some (take (2 * count) l ∷ [])
+gathered_from (listed count (some j)) l later = in_front (take (2 * count) l) (later j)
+gathered_from (listed count none) l later = some (take (2 * count) l ∷ [])
 gathered_from (done values) l later = none
 gathered_from absent l later = none
 gathered_from (refused n) l later = none
@@ -75,20 +72,20 @@ JoinedListing =
 
 -- A listing of the block at index i was performed on the array a, with some list array; it left the words `part` of its records there, and
 -- has said what follows.
-pub record BlockPerformed (a : List ℕ) (i : ℕ) (part : List ℕ) (f : Following) : Type 0 where
+pub record BlockPerformed (a : List ℕ) (i : ℕ) (part : List ℕ) (f : Option ℕ) : Type 0 where
   pub list : List ℕ
   pub answer : Answer
   pub after : List ℕ
   pub list_after : List ℕ
   pub performed : Performed (ListBlock i) a list answer after list_after
   pub count : ℕ
-  pub says : answer.reply ≡ Listed count f
+  pub says : said_by answer.reply ≡ listed count f
   pub words : part ≡ take (2 * count) list_after
 
 -- Such listings, each at the index that the one before has named, to the last: they left these parts.
 abbrev pub PartsPerformed : List ℕ → (i : ℕ) → (part : List ℕ) → (parts : List (List ℕ)) → Type 0
-PartsPerformed a i part [] = BlockPerformed a i part Last
-PartsPerformed a i part (p ∷ ps) = (j : ℕ) × BlockPerformed a i part (Next j) × PartsPerformed a j p ps
+PartsPerformed a i part [] = BlockPerformed a i part none
+PartsPerformed a i part (p ∷ ps) = (j : ℕ) × BlockPerformed a i part (some j) × PartsPerformed a j p ps
 
 -- From index 0 on, by whichever programs and with whichever list arrays, the parts are the full listing.
 abbrev pub JoinedPerformedListing : Type 0

@@ -6,7 +6,9 @@ use mathlib.Core.Option.{none, some}
 use Prim.Native.Nat.{ℕ, ◌+◌, ◌^◌, ◌≤◌, ◌<◌}
 use native.Mathlib.Omega.{arith}
 use lib.ListN.{length}
-use Rattle.replies.specs.declared.Refusal.TheVariants.{Broken as BrokenRefusal}
+use Rattle.std.specs.Prelude.{Result, Ok, Err}
+use Rattle.replies.specs.declared.Refusal.{Refusal}
+use Rattle.replies.specs.declared.Refusal.TheVariants.{Broken}
 use Rattle.replies.specs.Replies.{unless}
 use Rattle.index_rules.specs.Layout.{depth, max_depth, segments, valid_shape, words_for, entry_at, segment_of, local_depth, segment_address}
 use Rattle.index_rules.specs.Keys.{directory_bits, first_bits, index}
@@ -16,7 +18,6 @@ use Rattle.index_laws.proofs.Keys.{first_lt, index_first}
 use Rattle.index_laws.proofs.Scan.{range_depth, range_segment}
 use Rattle.index_layout.specs.declared.header.Header.{Header}
 use Rattle.index_layout.specs.declared.entry.Entry.{Entry}
-use Rattle.index_layout.specs.declared.entry.Entry.TheVariants.{At, Broken}
 use Rattle.index_layout.specs.declared.place.Place.{Place}
 use Rattle.index_layout.specs.Blocks.{shared}
 use Rattle.index_layout.specs.Headers.{Describes}
@@ -80,23 +81,23 @@ module _ {h : Header} {a : List ℕ} (d : Describes h a) (key i bits : ℕ) (ope
   key_entry_holds = rw (e, opened, ← index_first key h.depth, d.depth_read)
 
   -- What the reader of the key's entry tells.
-  module _ (r : Entry) (said : entry_said r ≡ entry_of (depth a) (segments a) (entry_at a (depth a) i)) where
-    entry_opened : (s L : ℕ) → r ≡ At s L → Opened (depth a) (segments a) (key_entry a key) s L
-    entry_opened s L q = entry_at_holds (depth a) (segments a) (key_entry a key) r (rw key_entry_holds at said) s L q
+  module _ (r : Result Entry Refusal) (said : entry_said r ≡ entry_of (depth a) (segments a) (entry_at a (depth a) i)) where
+    entry_opened : (x : Entry) → r ≡ Ok x → Opened (depth a) (segments a) (key_entry a key) x.segment x.depth
+    entry_opened x q = entry_at_holds (depth a) (segments a) (key_entry a key) r (rw key_entry_holds at said) x q
 
-    pub entry_segment : (s L : ℕ) → r ≡ At s L → s ≤ 4096
-    entry_segment s L q =
-        let o = entry_opened s L q in
+    pub entry_segment : (x : Entry) → r ≡ Ok x → x.segment ≤ 4096
+    entry_segment x q =
+        let o = entry_opened x q in
         let b = bounds d in
         let below : segment_of (key_entry a key) < segments a = range_segment (depth a) (segments a) (key_entry a key) o.range in
-        let below' : s < h.segments = rw (o.segment_is, d.segments_read) at below in
+        let below' : x.segment < h.segments = rw (o.segment_is, d.segments_read) at below in
         omega arith
 
-    pub placed_at : (s L : ℕ) → r ≡ At s L → (base : ℕ) → base ≡ segment_address h.max_depth s
-        → (entry_tests a key ≡ none) × (key ≡ key) × KeyPlace (record { header = h; key = key; bits = bits; segment = s; local_depth = L; base = base }) a
+    pub placed_at : (x : Entry) → r ≡ Ok x → (base : ℕ) → base ≡ segment_address h.max_depth x.segment
+        → (entry_tests a key ≡ none) × (key ≡ key) × KeyPlace (record { header = h; key = key; bits = bits; segment = x.segment; local_depth = x.depth; base = base }) a
     unfolding entry_tests unless key_segment
-    placed_at s L q base b =
-        let o = entry_opened s L q in (
+    placed_at x q base b =
+        let o = entry_opened x q in (
           rw o.range,
           refl,
           record {
@@ -109,9 +110,9 @@ module _ {h : Header} {a : List ℕ} (d : Describes h a) (key i bits : ℕ) (ope
           },
         )
 
-    pub placed_broken : r ≡ Broken → entry_tests a key ≡ some BrokenRefusal
+    pub placed_broken : (x : Refusal) → r ≡ Err x → entry_tests a key ≡ some Broken
     unfolding entry_tests unless
-    placed_broken q = rw (entry_broken (depth a) (segments a) (key_entry a key) r (rw key_entry_holds at said) q)
+    placed_broken x q = rw (entry_broken (depth a) (segments a) (key_entry a key) r (rw key_entry_holds at said) x q)
 
 -- ---- What it says of its key's block
 

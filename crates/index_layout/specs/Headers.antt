@@ -1,17 +1,16 @@
 -- What the reader of word 0 answers, and what a header that was read says of its array.
-use Rattle.std.specs.Prelude.{ℕ, ◌≡◌, true, List, [], ◌∷◌}
+use Rattle.std.specs.Prelude.{ℕ, ◌≡◌, true, List, [], ◌∷◌, Result, Ok, Err}
 use Rattle.stores.specs.Lists.{pick}
+use Rattle.replies.specs.declared.Refusal.{Refusal}
 use Rattle.replies.specs.declared.Refusal.TheVariants.{NoStore}
 use Rattle.index_rules.specs.Layout.{valid_header, depth, max_depth, segments}
 use Rattle.replies.specs.Replies.{Said, done, refuse}
 use Rattle.index_layout.specs.declared.header.Header.{Header}
-use Rattle.index_layout.specs.declared.header.HeaderRead.{HeaderRead}
-use Rattle.index_layout.specs.declared.header.HeaderRead.TheVariants.{Valid, NotValid}
 
--- What an answer of the reader says: G, D and S; or the refusal 'no store'.
-abbrev pub header_said : HeaderRead → Said
-header_said (Valid h) = done (h.depth ∷ h.max_depth ∷ h.segments ∷ [])
-header_said NotValid = refuse NoStore
+-- What an answer of the reader says: G, D and S; or a refusal.
+abbrev pub header_said : Result Header Refusal → Said
+header_said (Ok h) = done (h.depth ∷ h.max_depth ∷ h.segments ∷ [])
+header_said (Err r) = refuse r
 
 -- What is to be said of the array a.
 unfoldable pub header_of : List ℕ → Said

@@ -1,5 +1,5 @@
 -- What is told of a key's place.
-use Rattle.std.specs.Prelude.{ℕ, ◌≡◌, true, List}
+use Rattle.std.specs.Prelude.{ℕ, ◌≡◌, true, List, Result, Ok, Err}
 use Rattle.std.proofs.Math.Option.{Option, none, some}
 use Rattle.replies.specs.declared.Refusal.{Refusal}
 use Rattle.index_rules.specs.Layout.{depth, segments, segment_of, local_depth}
@@ -7,8 +7,6 @@ use Rattle.index_rules.specs.Keys.{directory_bits}
 use Rattle.index_rules.specs.Scan.{in_range}
 use Rattle.index_rules.specs.Get.{key_entry, key_segment}
 use Rattle.index_layout.specs.declared.place.Place.{Place}
-use Rattle.index_layout.specs.declared.place.Placed.{Placed}
-use Rattle.index_layout.specs.declared.place.Placed.TheVariants.{At, Refused}
 use Rattle.index_layout.specs.declared.key.Block.{Block}
 use Rattle.index_layout.specs.Headers.{Describes}
 
@@ -27,6 +25,6 @@ abbrev pub block_of : Place → Block
 block_of p = record { local_depth = p.local_depth; bits = p.bits }
 
 -- The tests t have passed, and this is the key's place; or they give this refusal.
-abbrev pub PlacedBy : Placed → List ℕ → (key : ℕ) → Option Refusal → Type 0
-PlacedBy (At p) a key t = (t ≡ none) × (p.key ≡ key) × KeyPlace p a
-PlacedBy (Refused r) a key t = t ≡ some r
+abbrev pub PlacedBy : Result Place Refusal → List ℕ → (key : ℕ) → Option Refusal → Type 0
+PlacedBy (Ok p) a key t = (t ≡ none) × (p.key ≡ key) × KeyPlace p a
+PlacedBy (Err r) a key t = t ≡ some r

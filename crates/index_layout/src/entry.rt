@@ -6,15 +6,16 @@ ghost use Rattle.index_layout.specs.Headers.{Describes};
 ghost use Rattle.index_layout.specs.Entries.{entry_said, entry_of, entry_read};
 
 use crate::header::{Header, pow2};
+use replies::Refusal;
 
 // The weight of the lowest bit of the local depth in an entry.
 const DEPTH_UNIT: u64 = 4294967296;
 
-// An entry in range, or one that a call refuses as broken.
+// An entry taken apart: its segment number and its local depth.
 #[derive(Clone, Copy)]
-pub enum Entry {
-    At { segment: usize, depth: u32 },
-    Broken,
+pub struct Entry {
+    pub segment: usize,
+    pub depth: u32,
 }
 
 // The segment number of an entry.
@@ -39,26 +40,27 @@ pub fn pack_entry(segment: usize, depth: u32) -> u64
     segment as u64 + DEPTH_UNIT * depth as u64
 }
 
-// Takes an entry apart, in a directory of this depth with this number of segments.
-pub fn open_entry(entry: u64, depth: u32, segments: u32) -> Entry
+// Takes an entry apart, in a directory of this depth with this number of segments. One that is out of
+// range is broken.
+pub fn open_entry(entry: u64, depth: u32, segments: u32) -> Result<Entry, Refusal>
     ensures { entry_said result ≡ entry_of depth segments entry }
 {
     let segment = segment_of(entry);
     let local_depth = local_depth_of(entry);
     if depth < local_depth {
-        return Entry::Broken;
+        return Err(Refusal::Broken);
     }
     if segments as usize <= segment {
-        return Entry::Broken;
+        return Err(Refusal::Broken);
     }
-    Entry::At {
+    Ok(Entry {
         segment,
         depth: local_depth,
-    }
+    })
 }
 
 // Reads entry `i` of the present directory.
-pub fn read_entry(words: &[u64], header: Header, i: usize) -> Entry
+pub fn read_entry(words: &[u64], header: Header, i: usize) -> Result<Entry, Refusal>
     requires { Describes header words.now × (i < 2 ^ header.depth) }
     ensures { entry_said result ≡ entry_read words.now i }
 {

@@ -4,6 +4,7 @@ ghost use Rattle.index_rules.specs.Layout.{header, words_for, valid_shape, segme
 ghost use Rattle.index_layout.specs.Headers.{header_said, header_of};
 
 use crate::{MOST_DEPTH, SEGMENT_WORDS};
+use replies::Refusal;
 
 // The smallest D of document 01.
 const MIN_MAX_DEPTH: u64 = 2;
@@ -32,13 +33,6 @@ pub struct Header {
     pub depth: u32,
     pub max_depth: u32,
     pub segments: u32,
-}
-
-// Word 0 as it was read.
-#[derive(Clone, Copy)]
-pub enum HeaderRead {
-    Valid(Header),
-    NotValid,
 }
 
 // 2 to the power `exponent`.
@@ -92,30 +86,30 @@ pub fn pack_header(depth: u32, max_depth: u32, segments: u32) -> u64
         + MARK_UNIT * MARK
 }
 
-// Reads word 0 of any array, the empty one too.
-pub fn read_header(words: &[u64]) -> HeaderRead
+// Reads word 0 of any array, the empty one too. Where it is not valid, the array is no store.
+pub fn read_header(words: &[u64]) -> Result<Header, Refusal>
     ensures { header_said result ≡ header_of words.now }
 {
     if words.len() == 0 {
-        return HeaderRead::NotValid;
+        return Err(Refusal::NoStore);
     }
     let word = words[0];
     let depth = word % DEPTH_VALUES;
     let max_depth = word / MAX_DEPTH_UNIT % DEPTH_VALUES;
     let segments = word / SEGMENTS_UNIT % SEGMENTS_VALUES;
     if word / MARK_UNIT != MARK {
-        return HeaderRead::NotValid;
+        return Err(Refusal::NoStore);
     }
     if !valid_shape(max_depth, segments) {
-        return HeaderRead::NotValid;
+        return Err(Refusal::NoStore);
     }
     if max_depth < depth {
-        return HeaderRead::NotValid;
+        return Err(Refusal::NoStore);
     }
     if words.len() < words_for(max_depth, segments) {
-        return HeaderRead::NotValid;
+        return Err(Refusal::NoStore);
     }
-    HeaderRead::Valid(Header {
+    Ok(Header {
         depth: depth as u32,
         max_depth: max_depth as u32,
         segments: segments as u32,

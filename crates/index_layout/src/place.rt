@@ -3,7 +3,7 @@ ghost use Rattle.index_rules.specs.Get.{entry_tests};
 ghost use Rattle.index_layout.specs.Headers.{Describes};
 ghost use Rattle.index_layout.specs.Places.{PlacedBy};
 
-use crate::entry::{Entry, read_entry};
+use crate::entry::read_entry;
 use crate::header::{Header, segment_base};
 use crate::key::{directory_index, open_key};
 use replies::Refusal;
@@ -20,35 +20,25 @@ pub struct Place {
     pub base: usize,
 }
 
-// A key's place, or the refusal of the first test that failed.
-#[derive(Clone, Copy)]
-pub enum Placed {
-    At(Place),
-    Refused(Refusal),
-}
-
-// The place of the key by its entry, which must be in range.
-pub fn place_of(words: &[u64], header: Header, key: u64) -> Placed
+// The place of the key by its entry, or the refusal of an entry that is out of range.
+pub fn place_of(words: &[u64], header: Header, key: u64) -> Result<Place, Refusal>
     requires { Describes header words.now }
     ensures { PlacedBy result words.now key (entry_tests words.now key) }
 {
     let opened = open_key(key);
     let bits = opened.bits;
     let i = directory_index(bits, header.depth);
-    let Entry::At {
-        segment,
-        depth: local_depth,
-    } = read_entry(words, header, i)
-    else {
-        return Placed::Refused(Refusal::Broken);
+    // `let .. else` and not `?`: document 01 names this form for the entry reader's refusal.
+    let Ok(entry) = read_entry(words, header, i) else {
+        return Err(Refusal::Broken);
     };
-    let base = segment_base(header.max_depth, segment);
-    Placed::At(Place {
+    let base = segment_base(header.max_depth, entry.segment);
+    Ok(Place {
         header,
         key,
         bits,
-        segment,
-        local_depth,
+        segment: entry.segment,
+        local_depth: entry.depth,
         base,
     })
 }

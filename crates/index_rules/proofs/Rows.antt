@@ -1,12 +1,12 @@
 -- One small row for each definition that an edit of the gate changes and no known state sees, by the test of the known states, which
 -- antt computes; and what rows about damaged arrays are made of.
 use Prim.Native.Nat.{ℕ, ◌+◌, ◌*◌}
+use mathlib.Core.Option.{some}
 use mathlib.Core.Path.{◌≡◌, refl}
 use mathlib.Core.Bool.{true}
 use mathlib.Core.List.{List, [], ◌∷◌, ◌++◌}
 use lib.ListN.{length, replicate}
 use Rattle.stores.specs.Store.{Store, store}
-use Rattle.replies.specs.declared.Following.TheVariants.{Next}
 use Rattle.replies.specs.Replies.{Said, done, listed}
 use Rattle.index_rules.specs.declared.Call.{Call}
 use Rattle.index_rules.specs.declared.Call.TheVariants.{Put, Merge, List as ListCall, ListBlock}
@@ -63,7 +63,7 @@ gate_rows =
     -- blocks are listed from the left, records that are live by their folded keys
     ∷ listed_by ListCall (F 4 ∷ []) three_pages (done (3 ∷ [])) (7 ∷ 70 ∷ 23 ∷ 230 ∷ 16391 ∷ 163910 ∷ []) 1
     -- the right block follows the left one, and is the last
-    ∷ listed_by (ListBlock 0) (F 4 ∷ []) three_pages (listed 1 (Next 1)) (7 ∷ 70 ∷ []) 1
+    ∷ listed_by (ListBlock 0) (F 4 ∷ []) three_pages (listed 1 (some 1)) (7 ∷ 70 ∷ []) 1
     -- a merge clears a stale key of the left segment
     ∷ damaged (two_blocks ++ slot 28 23) (Merge 7 10000) (done []) 3 (stands 64 0 ∷ stands 65 230 ∷ []) (names 0 0 ∷ names 0 0 ∷ []) (missing 23 ∷ [])
     ∷ []

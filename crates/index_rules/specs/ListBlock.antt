@@ -1,11 +1,9 @@
 -- Document 02, wish 7: the listing of one block, by the directory index of its leader.
 use Rattle.std.specs.Prelude.{ℕ, ◌+◌, ◌^◌, Bool, ◌&&◌, List, ltb, eqb, length}
-use Rattle.std.proofs.Math.Option.{Option}
+use Rattle.std.proofs.Math.Option.{Option, none, some}
 use Rattle.stores.specs.Lists.{pick}
 use Rattle.replies.specs.declared.Refusal.{Refusal}
 use Rattle.replies.specs.declared.Refusal.TheVariants.{NoLeader}
-use Rattle.replies.specs.declared.Following.{Following}
-use Rattle.replies.specs.declared.Following.TheVariants.{Next, Last}
 use Rattle.replies.specs.Replies.{listed, unless}
 use Rattle.replies.specs.Writing.{Writing, behind_tests}
 use Rattle.index_rules.specs.Layout.{depth, entry_at, local_depth}
@@ -26,11 +24,11 @@ abbrev pub behind_led : List ℕ → (i : ℕ) → ℕ
 behind_led a i = i + width (depth a) (local_depth (entry_at a (depth a) i))
 
 -- What follows a block: the block at the index behind it, or none where the directory ends there.
-unfoldable pub following : (behind end : ℕ) → Following
-following behind end = pick (ltb behind end) (Next behind) Last
+unfoldable pub following : (behind end : ℕ) → Option ℕ
+following behind end = pick (ltb behind end) (some behind) none
 
 -- What follows the block that index i leads.
-abbrev pub following_led : List ℕ → (i : ℕ) → Following
+abbrev pub following_led : List ℕ → (i : ℕ) → Option ℕ
 following_led a i = following (behind_led a i) (2 ^ depth a)
 
 -- The tests, with a list array of `room` words: 1, 3, 4 as for list, then 16, then 10 by the block's records alone.

@@ -9,6 +9,9 @@ use mathlib.Core.Bool.{Bool, true, false, not}
 use mathlib.Core.List.{List, [], ◌∷◌, ◌++◌}
 use mathlib.Core.Logic.{⊎_elim}
 use mathlib.Core.Option.{Option, none, some, or_else}
+use Rattle.std.specs.Prelude.{Some, None, MatchOption}
+use Rattle.std.specs.Option.{option_or}
+use Rattle.stores.specs.Options.{option_of}
 use Rattle.stores.specs.Store.{word}
 use Rattle.stores.specs.Lists.{each, first_in}
 use Rattle.stores.proofs.Lists.{each_suc, first_append, first_append_some, first_here, first_next}
@@ -33,6 +36,18 @@ first_joined p xs ys = go (first_in p xs) refl
     go : (o : Option ℕ) → first_in p xs ≡ o → first_in p (xs ++ ys) ≡ or_else o (first_in p ys)
     go none e = first_append p xs ys e
     go (some y) e = first_append_some p xs ys y e
+
+-- The code's ways to take one answer or else another.
+pub option_or_joined : (o r : Rattle.std.specs.Prelude.Option ℕ) → option_of (option_or o r) ≡ or_else (option_of o) (option_of r)
+unfolding or_else
+option_or_joined None r = refl
+option_or_joined (Some x) r = refl
+
+pub option_else_joined : (P : Type 0) (o r : Rattle.std.specs.Prelude.Option ℕ) (y : Option ℕ) → MatchOption o P (λ x. r ≡ Some x) → (P → option_of r ≡ y)
+    → option_of r ≡ or_else (option_of o) y
+unfolding or_else
+option_else_joined P None r y m f = f m
+option_else_joined P (Some x) r y m f = rw m
 
 module _ (p : ℕ → Bool) (f : ℕ → List ℕ) where
   -- Nothing in the lists so far passes, and nothing in the next one.

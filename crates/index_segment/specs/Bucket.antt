@@ -1,6 +1,6 @@
 -- A bucket of a segment, and the search through its four slots.
 use Rattle.std.specs.Prelude.{ℕ, ◌+◌, ◌*◌, ◌≡◌, Bool, not, List, [], ◌∷◌, eqb}
-use Rattle.std.proofs.Math.Option.{Option, or_else}
+use Rattle.std.proofs.Math.Option.{Option}
 use Rattle.stores.specs.Store.{word}
 use Rattle.stores.specs.Lists.{first_in}
 use Rattle.index_rules.specs.Layout.{key_at}
@@ -30,8 +30,3 @@ usable L bits segment j = not (live L bits (key_at segment 0 j))
 -- In every segment whose bucket b has these words, the answer is the first slot of that bucket that passes the test.
 abbrev pub FirstInBucket : (test : List ℕ → ℕ → Bool) (words : List ℕ) (b : ℕ) (answer : Option ℕ) → Type 0
 FirstInBucket test words b answer = (segment : List ℕ) → words ≡ bucket_words segment b → answer ≡ first_in (test segment) (slots_of b)
-
--- In every such segment the answer is the one of an earlier search, or else that first slot.
-abbrev pub ElseInBucket : (test : List ℕ → ℕ → Bool) (words : List ℕ) (b : ℕ) (earlier answer : Option ℕ) → Type 0
-ElseInBucket test words b earlier answer =
-    (segment : List ℕ) → words ≡ bucket_words segment b → answer ≡ or_else earlier (first_in (test segment) (slots_of b))

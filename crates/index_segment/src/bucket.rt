@@ -34,7 +34,8 @@ pub(crate) fn bucket_at(segment: &[u64], number: usize) -> Bucket
 // The number of bucket b of the key's probe window, bucket 0 following 15.
 pub(crate) fn window_bucket(key: u64, b: usize) -> usize
     requires { b < 4 }
-    ensures { result ≡ window_bucket key b }
+    ensures number { result ≡ window_bucket key b }
+    ensures small { result < 16 }
 {
     let opened = open_key(key);
     (opened.bucket + b) % BUCKETS

@@ -1,14 +1,13 @@
 // The slot for a put.
 ghost use Rattle.std.specs.Prelude.{◌≤◌, ◌<◌, ◌≡◌, length};
-ghost use Rattle.std.proofs.Math.Option.{or_else};
 ghost use Rattle.index_rules.specs.Slots.{choose};
 ghost use Rattle.index_layout.specs.Blocks.{shared};
-ghost use Rattle.index_segment.specs.Bucket.{has, usable, FirstInBucket, ElseInBucket};
-ghost use Rattle.index_segment.specs.Answers.{hit_of, choice_of};
+ghost use Rattle.index_segment.specs.Bucket.{has, usable, FirstInBucket};
+ghost use Rattle.stores.specs.Options.{option_of};
+ghost use Rattle.index_segment.specs.Answers.{choice_of};
 
 use crate::bucket::{Bucket, bucket_at, window_bucket};
 use crate::live::is_live;
-use crate::probe::Hit;
 use index_layout::key::Block;
 use index_layout::{BUCKET_SLOTS, WINDOW_BUCKETS};
 
@@ -23,74 +22,52 @@ pub enum Choice {
 
 // The first slot of the bucket that holds the key, or for key 0 the first empty one; the bucket has
 // this number in its segment.
-fn slot_with_key(bucket: Bucket, number: usize, key: u64) -> Hit
+fn slot_with_key(bucket: Bucket, number: usize, key: u64) -> Option<usize>
     requires { number < 16 }
-    ensures { FirstInBucket (has key) bucket.words number (hit_of result) }
+    ensures { FirstInBucket (has key) bucket.words number (option_of result) }
 {
     for j in 0..BUCKET_SLOTS {
         if bucket.words[2 * j] == key {
-            return Hit::At(BUCKET_SLOTS * number + j);
+            return Some(BUCKET_SLOTS * number + j);
         }
     }
-    Hit::Absent
+    None
 }
 
 // The first slot of the bucket that is usable in the block's segment: empty, or with a stale key.
-fn usable_slot(bucket: Bucket, number: usize, block: Block) -> Hit
+fn usable_slot(bucket: Bucket, number: usize, block: Block) -> Option<usize>
     requires { (number < 16) × (block.local_depth ≤ 12) }
-    ensures { FirstInBucket (usable block.local_depth (shared block)) bucket.words number (hit_of result) }
+    ensures { FirstInBucket (usable block.local_depth (shared block)) bucket.words number (option_of result) }
 {
     for j in 0..BUCKET_SLOTS {
         if !is_live(block, bucket.words[2 * j]) {
-            return Hit::At(BUCKET_SLOTS * number + j);
+            return Some(BUCKET_SLOTS * number + j);
         }
     }
-    Hit::Absent
-}
-
-// The usable slot that an earlier search found, or else the first one of the bucket: the liveness of its
-// keys is looked at only then.
-fn usable_from(earlier: Hit, bucket: Bucket, number: usize, block: Block) -> Hit
-    requires { (number < 16) × (block.local_depth ≤ 12) }
-    ensures { ElseInBucket (usable block.local_depth (shared block)) bucket.words number (hit_of earlier) (hit_of result) }
-{
-    match earlier {
-        Hit::At(slot) => Hit::At(slot),
-        Hit::Absent => usable_slot(bucket, number, block),
-    }
-}
-
-// What the first of two searches found, or else what the second found.
-fn first_of(first: Hit, second: Hit) -> Hit
-    ensures { hit_of result ≡ or_else (hit_of first) (hit_of second) }
-{
-    match first {
-        Hit::At(slot) => Hit::At(slot),
-        Hit::Absent => second,
-    }
+    None
 }
 
 // The slot for a put of the key into the block's segment, in one pass over its probe window. A hit in
 // any bucket comes before an empty slot, and an empty slot in any bucket before a stale one; where none
-// is empty, a usable slot is stale.
+// is empty, a usable slot is stale. Whether the keys of a bucket are live is looked at only while no usable
+// slot is known.
 pub fn choose(segment: &[u64], block: Block, key: u64) -> Choice
     requires { (length segment.now ≡ 128) × (block.local_depth ≤ 12) }
     ensures { choice_of result ≡ choose segment.now 0 block.local_depth (shared block) key }
 {
-    let mut empty = Hit::Absent;
-    let mut usable = Hit::Absent;
+    let mut empty = None;
+    let mut usable = None;
     for b in 0..WINDOW_BUCKETS {
         let number = window_bucket(key, b);
         let bucket = bucket_at(segment, number);
-        if let Hit::At(slot) = slot_with_key(bucket, number, key) {
+        if let Some(slot) = slot_with_key(bucket, number, key) {
             return Choice::Found(slot);
         }
-        empty = first_of(empty, slot_with_key(bucket, number, 0));
-        usable = usable_from(usable, bucket, number, block);
+        empty = empty.or(slot_with_key(bucket, number, 0));
+        usable = usable.or_else(|| usable_slot(bucket, number, block));
     }
-    let taken = first_of(empty, usable);
-    match taken {
-        Hit::At(slot) => Choice::Into(slot),
-        Hit::Absent => Choice::Full,
+    match empty.or(usable) {
+        Some(slot) => Choice::Into(slot),
+        None => Choice::Full,
     }
 }

@@ -5,9 +5,8 @@ use mathlib.Core.List.{List, [], ◌∷◌, ◌++◌}
 use Prim.Native.Nat.{ℕ, zero, suc, ◌+◌, ◌*◌, ◌-◌, ◌≤◌, ◌<◌}
 use native.Mathlib.Omega.{arith}
 use lib.Dec.{eqb}
-use native.Mathlib.Numerals.{add-one}
-use lib.ListN.{length, take, drop, set, get_or, length-drop, take-append-drop}
-use lib.Seq.{length-take-le, take-suc-set, take-suc, get_or-drop, take_all}
+use lib.ListN.{length, take, drop, take-append-drop}
+use lib.Seq.{length-take-le}
 use Rattle.stores.specs.Lists.{pick, each}
 use Rattle.stores.specs.Store.{Store, store, word, shifted, Every}
 use Rattle.stores.specs.Executed.{Executed}
@@ -113,17 +112,3 @@ pub copied : (a old : List ℕ) (base L bits allowance due due' : ℕ) (b : List
 copied a old base L bits allowance due due' b h p =
     rw (← copying_shifted old base L bits, span base)
     (executed_part (copying old 0 0 L bits) base allowance due a due' b h (copying_inside old 0 L bits) (rw (span base) at p))
-
--- ---- A segment copied word by word
-
-module _ (a : List ℕ) (base : ℕ) (fits : base + 128 ≤ length a) where
-  pub copy_more : (b : List ℕ) (i : ℕ) → i < 128 → length b ≡ 128 → take i b ≡ take i (drop base a)
-      → take (i + 1) (set b i (get_or a (base + i) 0)) ≡ take (i + 1) (drop base a)
-  copy_more b i k n e =
-      let here : i < length (drop base a) = rw length-drop (omega arith) in
-      rw (add-one i)
-      (take-suc-set b i (get_or a (base + i) 0) (omega arith)
-      ∙ rw (e, ← get_or-drop base a i 0) (sym (take-suc (drop base a) i 0 here)))
-
-  pub copy_all : (b : List ℕ) (i : ℕ) → i ≡ 128 → length b ≡ 128 → take i b ≡ take i (drop base a) → b ≡ segment_in a base
-  copy_all b i q n e = sym (take_all 128 b (omega arith)) ∙ rw q at e

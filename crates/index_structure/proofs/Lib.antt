@@ -3,3 +3,4 @@ pub mod Empties
 pub mod Copies
 pub mod Splits
 pub mod Merges
+pub mod Found

@@ -7,6 +7,7 @@ use native.Mathlib.Omega.{arith}
 use borrow.Author.Tests.{eqb-false, not-true}
 use lib.Dec.{eqb}
 use lib.ListN.{length, take, drop}
+use Rattle.std.specs.Prelude.{Option, Some}
 use Rattle.stores.specs.Lists.{pick}
 use Rattle.stores.specs.Store.{store, shifted, Every}
 use Rattle.stores.specs.Executed.{Executed, due_limit}
@@ -27,8 +28,6 @@ use Rattle.index_layout.proofs.Shapes.{bounds}
 use Rattle.index_layout.proofs.Places.{segment_fits, place_bounds, place_index}
 use Rattle.index_directory.specs.declared.buddy.Pair.{Pair}
 use Rattle.index_directory.specs.declared.join.JoinedBlock.{JoinedBlock}
-use Rattle.index_directory.specs.declared.buddy.Paired.{Paired}
-use Rattle.index_directory.specs.declared.buddy.Paired.TheVariants.{Halves, NoBuddy}
 use Rattle.index_directory.specs.Buddies.{PairAt, PairedBy, Joinable, joining_of}
 use Rattle.index_segment.specs.Slot.{segment_in}
 use Rattle.index_segment.proofs.Parts.{span, part_key, part_value}
@@ -181,17 +180,14 @@ module _ {p : Place} {pair : Pair} {a : List ℕ} (r : PairReady p pair a) where
       (executed_append (slots_in a (merging_at p pair)) (joining_of (block_for p pair)) allowance 0 a due b due' b' slots entries)
 
 -- What the search for the pair has answered.
-pub paired_none : (x : Paired) (p : Place) (a : List ℕ) → PairedBy x p a → x ≡ NoBuddy → PairedBy NoBuddy p a
-paired_none x p a f q = rw q at f
-
-paired_halves : (x : Paired) (pair : Pair) (p : Place) (a : List ℕ) → PairedBy x p a → x ≡ Halves pair → PairAt pair p a
-paired_halves x pair p a f q = rw q at f
+paired_some : (x : Option Pair) (pair : Pair) (p : Place) (a : List ℕ) → PairedBy x p a → x ≡ Some pair → PairAt pair p a
+paired_some x pair p a f q = rw q at f
 
 -- The pair that was found is ready.
-pub pair_ready : {x : Paired} {pair : Pair} {p : Place} {a : List ℕ} → KeyPlace p a → HalvesBelow p a → PairedBy x p a → x ≡ Halves pair
+pub pair_ready : {x : Option Pair} {pair : Pair} {p : Place} {a : List ℕ} → KeyPlace p a → HalvesBelow p a → PairedBy x p a → x ≡ Some pair
     → PairReady p pair a
 pair_ready {x} {pair} {p} {a} k below found q =
-    let at = paired_halves x pair p a found q in
+    let at = paired_some x pair p a found q in
     let both = below at.buddy in
     record {
       place = k;

@@ -10,10 +10,13 @@ use borrow.Author.Tests.{eq-eqb, ne_eqb}
 use lib.Dec.{eqb}
 use lib.ListN.{length, take, drop}
 use lib.Pow.{pow_mono}
+use Rattle.std.specs.Prelude.{Ok, Err, Option, Some, None}
+use Rattle.stores.specs.Options.{option_of}
 use Rattle.stores.specs.Store.{word, apply}
 use Rattle.stores.specs.Executed.{Executed, due_limit}
 use Rattle.stores.proofs.Stores.{executed_append}
 use Rattle.stores.proofs.Loops.{executed_length}
+use Rattle.replies.specs.declared.Refusal.TheVariants.{NoSegment}
 use Rattle.index_rules.specs.Layout.{depth, max_depth, segment_address, local_depth}
 use Rattle.index_rules.specs.Keys.{first_bits}
 use Rattle.index_rules.specs.Slots.{free_segment}
@@ -30,13 +33,9 @@ use Rattle.index_layout.specs.Blocks.{shared}
 use Rattle.index_layout.specs.Places.{KeyPlace, block_of}
 use Rattle.index_layout.proofs.Shapes.{bounds}
 use Rattle.index_layout.proofs.Places.{segment_fits, place_bounds, place_index}
-use Rattle.index_directory.specs.declared.free.Free.{Free}
-use Rattle.index_directory.specs.declared.free.Free.TheVariants.{Segment, Nothing}
-use Rattle.index_directory.specs.Frees.{free_of}
 use Rattle.index_directory.specs.Updates.{Updatable, updating_of}
 use Rattle.index_segment.specs.Slot.{segment_in}
 use Rattle.index_structure.specs.declared.split.Halving.{Halving}
-use Rattle.index_structure.specs.declared.split.SplitAnswer.TheVariants.{Due, NoSegment}
 use Rattle.index_structure.specs.Splits.{CanSplit, SplitBy, Halvable, copying_at, halves_at, start_at, halving_at}
 use Rattle.index_structure.proofs.Copies.{copying_same, copying_read, copied}
 
@@ -178,14 +177,15 @@ module _ {p : Place} {a : List ℕ} (k : KeyPlace p a) (shallow : p.local_depth 
       let g = (bounds k.header_read).present in
       omega (arith, shallow)
 
-  module _ {x : Free} (f : free_of x ≡ free_segment a) where
-    pub no_segment : x ≡ Nothing → SplitBy NoSegment p 0 a a
-    no_segment q = (room, sym (rw q at f), refl)
+  -- The search for a free segment has found n, or none.
+  module _ (f : Option ℕ) (e : option_of f ≡ free_segment a) where
+    pub no_segment : f ≡ None → (allowance : ℕ) → SplitBy (Err NoSegment) p allowance a a
+    no_segment q allowance = (room, sym (rw q at e), refl)
 
-    free_is : {n : ℕ} → x ≡ Segment n → free_segment a ≡ some n
-    free_is q = sym (rw q at f)
+    free_is : {n : ℕ} → f ≡ Some n → free_segment a ≡ some n
+    free_is q = sym (rw q at e)
 
-    pub can_split : {n : ℕ} → x ≡ Segment n → CanSplit p n a
+    pub can_split : {n : ℕ} → f ≡ Some n → CanSplit p n a
     can_split {n} q =
         record {
           place = k;
@@ -193,6 +193,6 @@ module _ {p : Place} {a : List ℕ} (k : KeyPlace p a) (shallow : p.local_depth 
           new_below = rw k.header_read.segments_read at (free_below a n (free_is q)).0;
         }
 
-    pub split_made : {n : ℕ} → x ≡ Segment n → {allowance due : ℕ} {b : List ℕ} → Executed (splitting a p.key n) allowance 0 a due b
-        → SplitBy (Due due) p allowance a b
-    split_made {n} q e = (n, record { local_room = room; free = free_is q; made = e })
+    pub split_made : {n : ℕ} → f ≡ Some n → {allowance due : ℕ} {b : List ℕ} → Executed (splitting a p.key n) allowance 0 a due b
+        → SplitBy (Ok due) p allowance a b
+    split_made {n} q m = (n, record { local_room = room; free = free_is q; made = m })

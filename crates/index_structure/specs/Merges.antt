@@ -1,7 +1,9 @@
 -- What a merge of a key's block and its buddy asks of its caller, and answers; and the stores of its slots.
-use Rattle.std.specs.Prelude.{ℕ, ◌+◌, ◌-◌, ◌≤◌, ◌<◌, ◌≡◌, Bool, true, false, List, length}
+use Rattle.std.specs.Prelude.{Result, Ok, Err, ℕ, ◌+◌, ◌-◌, ◌≤◌, ◌<◌, ◌≡◌, Bool, true, false, List, length}
 use Rattle.stores.specs.Store.{Store}
 use Rattle.stores.specs.Executed.{Executed}
+use Rattle.replies.specs.declared.Refusal.{Refusal}
+use Rattle.replies.specs.declared.Refusal.TheVariants.{NoBuddy, BothLive}
 use Rattle.index_rules.specs.Layout.{segments, segment_address}
 use Rattle.index_rules.specs.Merge.{both_live, merging_slots, key_buddy, key_both_live, left_of, right_of, key_merging}
 use Rattle.index_layout.specs.declared.place.Place.{Place}
@@ -10,8 +12,6 @@ use Rattle.index_layout.specs.Places.{KeyPlace}
 use Rattle.index_directory.specs.declared.buddy.Pair.{Pair}
 use Rattle.index_directory.specs.Buddies.{PairAt}
 use Rattle.index_structure.specs.declared.merge.Merging.{Merging}
-use Rattle.index_structure.specs.declared.merge.MergeAnswer.{MergeAnswer}
-use Rattle.index_structure.specs.declared.merge.MergeAnswer.TheVariants.{Due, NoBuddy, BothLive}
 
 -- ---- The slots
 
@@ -64,8 +64,9 @@ pub record MergedTo (p : Place) (allowance due : ℕ) (a b : List ℕ) : Type 0 
   pub apart : key_both_live a p.key ≡ false
   pub made : Executed (key_merging a p.key) allowance 0 a due b
 
--- What a merge answers, and leaves as b. A refusal makes no store.
-abbrev pub MergedBy : MergeAnswer → Place → (allowance : ℕ) → (a b : List ℕ) → Type 0
-MergedBy (Due due) p allowance a b = MergedTo p allowance due a b
-MergedBy NoBuddy p allowance a b = (key_buddy a p.key ≡ false) × (b ≡ a)
-MergedBy BothLive p allowance a b = (key_buddy a p.key ≡ true) × (key_both_live a p.key ≡ true) × (b ≡ a)
+-- What a merge answers, and leaves as b: the number of stores due, or what its tests of the two halves refuse, which makes no store.
+abbrev pub MergedBy : Result ℕ Refusal → Place → (allowance : ℕ) → (a b : List ℕ) → Type 0
+MergedBy (Ok due) p allowance a b = MergedTo p allowance due a b
+MergedBy (Err NoBuddy) p allowance a b = (key_buddy a p.key ≡ false) × (b ≡ a)
+MergedBy (Err BothLive) p allowance a b = (key_buddy a p.key ≡ true) × (key_both_live a p.key ≡ true) × (b ≡ a)
+MergedBy (Err _) p allowance a b = ⊥

@@ -1,8 +1,10 @@
 -- What a split of a key's segment asks of its caller, and answers; and the stores of its steps 3 and 4.
-use Rattle.std.specs.Prelude.{ℕ, ◌+◌, ◌≤◌, ◌<◌, ◌≡◌, List, ◌++◌, length}
+use Rattle.std.specs.Prelude.{Result, Ok, Err, ℕ, ◌+◌, ◌≤◌, ◌<◌, ◌≡◌, List, ◌++◌, length}
 use Rattle.std.proofs.Math.Option.{none, some}
 use Rattle.stores.specs.Store.{Store}
 use Rattle.stores.specs.Executed.{Executed}
+use Rattle.replies.specs.declared.Refusal.{Refusal}
+use Rattle.replies.specs.declared.Refusal.TheVariants.{TooDeep, NoSegment}
 use Rattle.index_rules.specs.Layout.{segment_address}
 use Rattle.index_rules.specs.Keys.{first_bits, block_start}
 use Rattle.index_rules.specs.Slots.{free_segment}
@@ -12,8 +14,6 @@ use Rattle.index_layout.specs.Blocks.{shared}
 use Rattle.index_layout.specs.Places.{KeyPlace, block_of}
 use Rattle.index_directory.specs.declared.update.Halves.{Halves}
 use Rattle.index_directory.specs.Updates.{updating_of}
-use Rattle.index_structure.specs.declared.split.SplitAnswer.{SplitAnswer}
-use Rattle.index_structure.specs.declared.split.SplitAnswer.TheVariants.{Due, TooDeep, NoSegment}
 use Rattle.index_structure.specs.declared.split.Halving.{Halving}
 
 -- ---- The whole split
@@ -31,11 +31,12 @@ pub record SplitInto (p : Place) (n allowance due : ℕ) (a b : List ℕ) : Type
   pub free : free_segment a ≡ some n
   pub made : Executed (splitting a p.key n) allowance 0 a due b
 
--- What a split answers, and leaves as b. Step 1 makes no store.
-abbrev pub SplitBy : SplitAnswer → Place → (allowance : ℕ) → (a b : List ℕ) → Type 0
-SplitBy (Due due) p allowance a b = (n : ℕ) × SplitInto p n allowance due a b
-SplitBy TooDeep p allowance a b = (p.local_depth ≡ p.header.max_depth) × (b ≡ a)
-SplitBy NoSegment p allowance a b = (p.local_depth < p.header.max_depth) × (free_segment a ≡ none) × (b ≡ a)
+-- What a split answers, and leaves as b: the number of stores due, or what step 1 refuses, which makes no store.
+abbrev pub SplitBy : Result ℕ Refusal → Place → (allowance : ℕ) → (a b : List ℕ) → Type 0
+SplitBy (Ok due) p allowance a b = (n : ℕ) × SplitInto p n allowance due a b
+SplitBy (Err TooDeep) p allowance a b = (p.local_depth ≡ p.header.max_depth) × (b ≡ a)
+SplitBy (Err NoSegment) p allowance a b = (p.local_depth < p.header.max_depth) × (free_segment a ≡ none) × (b ≡ a)
+SplitBy (Err _) p allowance a b = ⊥
 
 -- ---- Steps 3 and 4
 

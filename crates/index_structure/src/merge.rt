@@ -6,21 +6,14 @@ ghost use Rattle.index_layout.specs.Places.{KeyPlace};
 ghost use Rattle.index_structure.specs.Merges.{both_live_in, slots_in, Mergeable, PairFits, merging_at, PairReady, HalvesBelow, MergedBy};
 
 use crate::read::read_segment;
-use index_directory::buddy::{Pair, Paired, find_pair};
+use index_directory::buddy::{Pair, find_pair};
 use index_directory::join::{JoinedBlock, join_entries};
 use index_layout::SEGMENT_WORDS;
 use index_layout::header::segment_base;
 use index_layout::key::Block;
 use index_layout::place::Place;
 use index_segment::merge::{merge_records, some_both_live};
-
-// What a merge answers: the number of stores due, or what its tests of the two halves refuse.
-#[derive(Clone, Copy)]
-pub enum MergeAnswer {
-    Due(u32),
-    NoBuddy,
-    BothLive,
-}
+use replies::Refusal;
 
 // The two halves as the slots take them: where their segments stand, document 02's a and b, and the block
 // that they make.
@@ -101,16 +94,14 @@ fn join_halves(words: &mut [u64], place: Place, pair: Pair, allowance: u32) -> u
 }
 
 // Merges the key's block and its buddy, if it has one of the same depth and no slot is live on both
-// sides.
-pub fn merge(words: &mut [u64], place: Place, allowance: u32) -> MergeAnswer
+// sides: answers the number of stores due.
+pub fn merge(words: &mut [u64], place: Place, allowance: u32) -> Result<u32, Refusal>
     requires { KeyPlace place words.old × HalvesBelow place words.old }
     ensures { MergedBy result place allowance words.old words.new }
 {
-    let Paired::Halves(pair) = find_pair(words, place) else {
-        return MergeAnswer::NoBuddy;
-    };
+    let pair = find_pair(words, place).ok_or(Refusal::NoBuddy)?;
     if both_live(words, merging_of(place, pair)) {
-        return MergeAnswer::BothLive;
+        return Err(Refusal::BothLive);
     }
-    MergeAnswer::Due(join_halves(words, place, pair, allowance))
+    Ok(join_halves(words, place, pair, allowance))
 }

@@ -10,9 +10,5 @@ pub(crate) fn read_segment(words: &[u64], base: usize) -> [u64; SEGMENT_WORDS]
     requires { base + 128 ≤ length words.now }
     ensures { result ≡ segment_in words.now base }
 {
-    let mut segment = [0u64; SEGMENT_WORDS];
-    for i in 0..SEGMENT_WORDS {
-        segment[i] = words[base + i];
-    }
-    segment
+    <[u64; SEGMENT_WORDS]>::try_from(&words[base..base + SEGMENT_WORDS]).unwrap()
 }

@@ -7,7 +7,7 @@ ghost use Rattle.index_structure.specs.Splits.{halving_at, Halvable, CanSplit, S
 
 use crate::read::read_segment;
 use index_directory::double::double;
-use index_directory::free::{Free, free_segment};
+use index_directory::free::free_segment;
 use index_directory::update::{Halves, update_entries};
 use index_layout::SEGMENT_WORDS;
 use index_layout::entry::block_start;
@@ -15,14 +15,7 @@ use index_layout::header::segment_base;
 use index_layout::key::{Block, directory_index};
 use index_layout::place::Place;
 use index_segment::copy::copy_records;
-
-// What a split answers: the number of stores due, or what step 1 refuses.
-#[derive(Clone, Copy)]
-pub enum SplitAnswer {
-    Due(u32),
-    TooDeep,
-    NoSegment,
-}
+use replies::Refusal;
 
 // Steps 3 and 4 of a split: the key's place, the directory's depth behind any doubling, and the new
 // segment.
@@ -98,17 +91,16 @@ fn split_into(words: &mut [u64], place: Place, new_segment: usize, allowance: u3
 }
 
 // Splits the key's segment into itself and the smallest free segment, if the segment is not too deep
-// and one is free. Whether the rest of the directory is consistent does not matter.
-pub fn split(words: &mut [u64], place: Place, allowance: u32) -> SplitAnswer
+// and one is free: answers the number of stores due. Whether the rest of the directory is consistent does
+// not matter.
+pub fn split(words: &mut [u64], place: Place, allowance: u32) -> Result<u32, Refusal>
     requires { KeyPlace place words.old }
     ensures { SplitBy result place allowance words.old words.new }
 {
     let header = place.header;
     if place.local_depth == header.max_depth {
-        return SplitAnswer::TooDeep;
+        return Err(Refusal::TooDeep);
     }
-    let Free::Segment(new_segment) = free_segment(words, header) else {
-        return SplitAnswer::NoSegment;
-    };
-    SplitAnswer::Due(split_into(words, place, new_segment, allowance))
+    let new_segment = free_segment(words, header).ok_or(Refusal::NoSegment)?;
+    Ok(split_into(words, place, new_segment, allowance))
 }

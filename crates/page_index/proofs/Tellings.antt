@@ -1,9 +1,9 @@
 -- From the promise of a call to what is told of it.
 use Prim.Native.Nat.{ℕ}
+use mathlib.Core.Option.{Option}
 use mathlib.Core.Path.{◌≡◌, refl, ap, ◌∙◌}
 use mathlib.Core.List.{List}
 use lib.ListN.{length}
-use Rattle.replies.specs.declared.Following.{Following}
 use Rattle.replies.specs.declared.Reply.{Reply}
 use Rattle.replies.specs.declared.Reply.TheVariants.{Done, Value, Listed, Absent, Refused}
 use Rattle.stores.specs.Plan.{Outcome}
@@ -32,7 +32,7 @@ module _ {answer : Answer} {r : PageIndexReply} (k : Tells (said_by answer.reply
   told_block {m = m} h e = record { writing = told_wrote h; next = e ∙ ap (λ (said : Said). next_said said m) h.reply }
 
 -- A reply that lists no block leaves the word at `next`.
-pub next_kept : (reply : Reply) (before : ℕ) → ((n : ℕ) (f : Following) → reply ≡ Listed n f → ⊥)
+pub next_kept : (reply : Reply) (before : ℕ) → ((n : ℕ) (f : Option ℕ) → reply ≡ Listed n f → ⊥)
     → before ≡ next_said (said_by reply) before
 next_kept Done before t = refl
 next_kept (Value v) before t = refl

@@ -1,5 +1,6 @@
 -- An answer as three numbers.
 use Rattle.std.specs.Prelude.{ℕ, ◌≡◌, List, [], ◌∷◌, length}
+use Rattle.std.proofs.Math.Option.{none, some}
 use Rattle.stores.specs.Plan.{Outcome}
 use Rattle.stores.specs.Written.{at_front}
 use Rattle.replies.specs.declared.Answer.{Answer}
@@ -8,7 +9,6 @@ use Rattle.index_rules.specs.declared.Call.{Call}
 use Rattle.index_rules.specs.Step.{Performed}
 use Rattle.replies.specs.Writing.{Writing}
 use Rattle.index_rules.specs.ListBlock.{list_block}
-use Rattle.replies.specs.declared.Following.TheVariants.{Next, Last}
 use Rattle.page_index.specs.declared.PageIndexReply.{PageIndexReply}
 
 -- The code of a reply: 0 for done, document 01's number of a refusal, and 255, which is our choice, for absent.
@@ -30,8 +30,8 @@ value_of (refused n) = 0
 -- What C's `*next` holds behind a reply, where it held `before`: the index of the block that follows, or 0 after the last; a reply that
 -- lists no block leaves it.
 abbrev pub next_said : Said → (before : ℕ) → ℕ
-next_said (listed n (Next i)) before = i
-next_said (listed n Last) before = 0
+next_said (listed n (some i)) before = i
+next_said (listed n none) before = 0
 next_said (done values) before = before
 next_said absent before = before
 next_said (refused n) before = before

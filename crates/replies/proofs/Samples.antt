@@ -9,7 +9,6 @@ use lib.Dec.{eqb}
 use Rattle.stores.specs.Store.{store, apply, exec}
 use Rattle.stores.specs.Plan.{Plan, Outcome, cut}
 use Rattle.replies.specs.declared.Refusal.TheVariants.{NoStore, NoKey, Broken, Unmended, TooDeep, NoSegment, CutOff, BadShape, TooShort, ShortList, BadYear, BadMonth, BadNumber, NoBuddy, BothLive, NoLeader}
-use Rattle.replies.specs.declared.Following.TheVariants.{Next, Last}
 use Rattle.stores.specs.Lists.{numbers_same}
 use Rattle.replies.specs.Replies.{number_of, Said, done, listed, absent, refused, is_done, is_refusal, says_damage, following_same, said_same, unless, tested, changed}
 use Rattle.replies.specs.Writing.{Writing, behind_tests}
@@ -42,14 +41,14 @@ writes w said words = said_same w.reply said && numbers_same w.words words
 -- A listing of one block is done; 1, 3 and 4 are told from other replies.
 told : Bool
 told =
-    is_done (listed 3 Last)
+    is_done (listed 3 none)
     && (says_damage (refused 1) && (says_damage (refused 3) && (says_damage (refused 4)
-    && (not (says_damage (refused 10)) && (not (says_damage (refused 16)) && not (says_damage (listed 1 Last)))))))
+    && (not (says_damage (refused 10)) && (not (says_damage (refused 16)) && not (says_damage (listed 1 none)))))))
 
 -- Replies of which no two are the same, in either order, but each with itself.
 pub replies : List Said
 replies =
-    done [] ∷ done (3 ∷ []) ∷ done (4 ∷ []) ∷ listed 3 (Next 0) ∷ listed 3 (Next 4) ∷ listed 3 Last ∷ listed 4 Last ∷ absent ∷ refused 3 ∷ refused 4 ∷ []
+    done [] ∷ done (3 ∷ []) ∷ done (4 ∷ []) ∷ listed 3 (some 0) ∷ listed 3 (some 4) ∷ listed 3 none ∷ listed 4 none ∷ absent ∷ refused 3 ∷ refused 4 ∷ []
 
 -- A reply is told from those of the list.
 told_from : Said → List Said → Bool

@@ -1,15 +1,14 @@
 -- Document 01, 'Replies that say no': what the code's answers mean in its numbers, tests in its order, and calls cut off.
-use Rattle.std.specs.Prelude.{ℕ, Bool, true, false, ◌&&◌, ◌||◌, List, [], ◌∷◌, eqb}
+use Rattle.std.specs.Prelude.{ℕ, Bool, true, false, ◌&&◌, ◌||◌, List, [], ◌∷◌, eqb, Result, Ok, Err}
 use Rattle.std.proofs.Math.Option.{Option, none, some}
+use Rattle.stores.specs.Options.{option_of}
 use Rattle.stores.specs.Lists.{numbers_same}
 use Rattle.stores.specs.Store.{Store}
 use Rattle.stores.specs.Plan.{Plan, Outcome, reply_only, cut}
 use Rattle.replies.specs.declared.Refusal.{Refusal}
 use Rattle.replies.specs.declared.Refusal.TheVariants.{NoStore, NoKey, Broken, Unmended, TooDeep, NoSegment, CutOff, BadShape, TooShort, ShortList, BadYear, BadMonth, BadNumber, NoBuddy, BothLive, NoLeader}
-use Rattle.replies.specs.declared.Following.{Following}
-use Rattle.replies.specs.declared.Following.TheVariants.{Next, Last}
 use Rattle.replies.specs.declared.Reply.{Reply}
-use Rattle.replies.specs.declared.Reply.TheVariants.{Done, Value, Listed, Absent, Refused}
+use Rattle.replies.specs.declared.Reply.TheVariants.{Done, Value, Listed, Absent}
 
 -- The number of a refusal: 1 to 10 in document 01's table, from 11 on in document 02.
 abbrev pub number_of : Refusal → ℕ
@@ -30,21 +29,21 @@ number_of NoBuddy = 14
 number_of BothLive = 15
 number_of NoLeader = 16
 
--- What a call says: done, with the values that go with it; done, with the number of records listed and what follows; absent; or the
--- number of a refusal.
+-- What a call says: done, with the values that go with it; done, with the number of records listed and the index of the block that follows,
+-- if one does; absent; or the number of a refusal.
 pub data Said : Type 0 where
   done : List ℕ → Said
-  listed : (count : ℕ) → Following → Said
+  listed : (count : ℕ) → (next : Option ℕ) → Said
   absent : Said
   refused : ℕ → Said
 
--- What a reply of the code says.
-abbrev pub said_by : Reply → Said
-said_by Done = done []
-said_by (Value v) = done (v ∷ [])
-said_by (Listed n f) = listed n f
-said_by Absent = absent
-said_by (Refused r) = refused (number_of r)
+-- What the code's reply or refusal says.
+abbrev pub said_by : Result Reply Refusal → Said
+said_by (Ok Done) = done []
+said_by (Ok (Value v)) = done (v ∷ [])
+said_by (Ok (Listed n next)) = listed n (option_of next)
+said_by (Ok Absent) = absent
+said_by (Err r) = refused (number_of r)
 
 -- A reply is done.
 abbrev pub is_done : Said → Bool
@@ -65,11 +64,11 @@ abbrev pub says_damage : Said → Bool
 says_damage said = is_refusal 1 said || (is_refusal 3 said || is_refusal 4 said)
 
 -- The same follows.
-unfoldable pub following_same : Following → Following → Bool
-following_same (Next i) (Next j) = eqb i j
-following_same (Next i) Last = false
-following_same Last (Next j) = false
-following_same Last Last = true
+unfoldable pub following_same : Option ℕ → Option ℕ → Bool
+following_same (some i) (some j) = eqb i j
+following_same (some i) none = false
+following_same none (some j) = false
+following_same none none = true
 
 -- Two replies are the same.
 unfoldable pub said_same : Said → Said → Bool

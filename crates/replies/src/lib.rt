@@ -9,7 +9,7 @@ ghost use Rattle.replies.specs.Answered.{AfterStores};
 // document 02 adds, in the order of their numbers.
 #[derive(Clone, Copy)]
 pub enum Refusal {
-    NoStore,
+    NoStore = 1,
     NoKey,
     Broken,
     Unmended,
@@ -27,34 +27,26 @@ pub enum Refusal {
     NoLeader,
 }
 
-// What follows in a listing block by block: the block at this index, or none, since it was the last.
-#[derive(Clone, Copy)]
-pub enum Following {
-    Next(u64),
-    Last,
-}
-
-// The reply of a call: done; done with a value, which is what a get found or how many records a
-// list wrote; done with how many records of one block were written, and what follows; absent, for get
-// and remove; or a refusal.
+// The reply of a call that is done or finds nothing: done; done with a value, which is what a get found or how
+// many records a list wrote; done with how many records of one block were written, and the index of the block that
+// follows, if it was not the last; absent, for get and remove.
 #[derive(Clone, Copy)]
 pub enum Reply {
     Done,
     Value(u64),
-    Listed(u64, Following),
+    Listed(u64, Option<u64>),
     Absent,
-    Refused(Refusal),
 }
 
-// The answer of a call: its reply, and the number of stores it made.
+// The answer of a call: its reply or its refusal, and the number of stores it made.
 #[derive(Clone, Copy)]
 pub struct Answer {
-    pub reply: Reply,
+    pub reply: Result<Reply, Refusal>,
     pub stores: u32,
 }
 
 // The answer of a call that made no store.
-pub fn without_store(reply: Reply) -> Answer
+pub fn without_store(reply: Result<Reply, Refusal>) -> Answer
     ensures { (result.reply ≡ reply) × (result.stores ≡ 0) }
 {
     Answer { reply, stores: 0 }
@@ -63,37 +55,25 @@ pub fn without_store(reply: Reply) -> Answer
 // The answer of a call of which `due` stores were due and `allowance` could be made: the reply, or cut
 // off where more were due than allowed.
 pub fn after_stores(reply: Reply, allowance: u32, due: u32) -> Answer
-    ensures { AfterStores result (said_by reply) allowance due }
+    ensures { AfterStores result (said_by (Ok reply)) allowance due }
 {
     if allowance < due {
         return Answer {
-            reply: Reply::Refused(Refusal::CutOff),
+            reply: Err(Refusal::CutOff),
             stores: allowance,
         };
     }
-    Answer { reply, stores: due }
+    Answer {
+        reply: Ok(reply),
+        stores: due,
+    }
 }
 
 // The number of a refusal.
-pub fn refusal_number(refusal: Refusal) -> u32
-    ensures { result ≡ number_of refusal }
-{
-    match refusal {
-        Refusal::NoStore => 1,
-        Refusal::NoKey => 2,
-        Refusal::Broken => 3,
-        Refusal::Unmended => 4,
-        Refusal::TooDeep => 5,
-        Refusal::NoSegment => 6,
-        Refusal::CutOff => 7,
-        Refusal::BadShape => 8,
-        Refusal::TooShort => 9,
-        Refusal::ShortList => 10,
-        Refusal::BadYear => 11,
-        Refusal::BadMonth => 12,
-        Refusal::BadNumber => 13,
-        Refusal::NoBuddy => 14,
-        Refusal::BothLive => 15,
-        Refusal::NoLeader => 16,
+impl From<Refusal> for u32 {
+    ghost from_gives = { λ refusal number. number ≡ number_of refusal };
+
+    fn from(refusal: Refusal) -> u32 {
+        refusal as u32
     }
 }

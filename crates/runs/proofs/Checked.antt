@@ -1,5 +1,6 @@
 -- What the claims say of a run and of mends, the computed tests find; and what the tests find of the keys that are asked for, the claims say.
 use Prim.Native.Nat.{ℕ}
+use mathlib.Core.Option.{Option, none, some}
 use mathlib.Core.Path.{◌≡◌, refl}
 use mathlib.Core.Bool.{Bool, true, not}
 use mathlib.Core.List.Memᴰ
@@ -8,8 +9,6 @@ use mathlib.Core.Logic.{⊎_elim}
 use borrow.Author.Tests.{eq-eqb}
 use Rattle.stores.proofs.Tests.{by_test, and_left, and_right, and_true, or_right}
 use Rattle.stores.specs.Lists.{numbers_same}
-use Rattle.replies.specs.declared.Following.{Following}
-use Rattle.replies.specs.declared.Following.TheVariants.{Next, Last}
 use Rattle.replies.specs.Replies.{Said, done, listed, absent, refused, following_same, said_same}
 use Rattle.replies.proofs.Same.{same_said}
 use Rattle.runs.specs.Map.{Map, View, formats, gets, puts, removes, mends, looks, keeps, map_says}
@@ -22,10 +21,10 @@ unfolding numbers_same
 numbers_same_holds [] = refl
 numbers_same_holds (x ∷ xs) = and_true (eq-eqb x x refl) (numbers_same_holds xs)
 
-following_same_holds : (f : Following) → following_same f f ≡ true
+following_same_holds : (f : Option ℕ) → following_same f f ≡ true
 unfolding following_same
-following_same_holds (Next i) = eq-eqb i i refl
-following_same_holds Last = refl
+following_same_holds (some i) = eq-eqb i i refl
+following_same_holds none = refl
 
 said_same_holds : (s : Said) → said_same s s ≡ true
 unfolding said_same

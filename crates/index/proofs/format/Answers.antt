@@ -10,9 +10,6 @@ pub returns-then-not-valid_shape : goal.returns-then-not-valid_shape
 returns-then-not-valid_shape c =
     format_bad_shape _ _ _ _ _ (sym c.valid_shape.ensures ∙ c.if-not-valid_shape.true) (ap said_by c.without_store.ensures.0, c.without_store.ensures.1)
 
-pub words_for-requires : goal.words_for-requires
-words_for-requires c = sym c.valid_shape.ensures ∙ c.if-not-valid_shape.false
-
 pub returns-then-words-words_for : goal.returns-then-words-words_for
 returns-then-words-words_for c =
     format_too_short _ _ _ _ _ (sym c.valid_shape.ensures ∙ c.if-not-valid_shape.false) (rw c.words_for.ensures at c.if-words-words_for.true)
@@ -23,9 +20,6 @@ overflow_cast-depth c = let s = shape _ _ (sym c.valid_shape.ensures ∙ c.if-no
 
 pub overflow_cast-segments : goal.overflow_cast-segments
 overflow_cast-segments c = let s = shape _ _ (sym c.valid_shape.ensures ∙ c.if-not-valid_shape.false) in omega arith
-
-pub store_empty-due-requires : goal.store_empty-due-requires
-store_empty-due-requires c = (sym c.valid_shape.ensures ∙ c.if-not-valid_shape.false, rw c.words_for.ensures at c.if-words-words_for.false)
 
 pub returns : goal.returns
 returns c =

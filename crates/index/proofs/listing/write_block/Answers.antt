@@ -1,5 +1,4 @@
 -- `index::listing::write_block` meets its contract.
-use native.Mathlib.Omega.{arith}
 use Rattle.index_segment.proofs.Parts.{span, part_length, part_records}
 use Rattle.index.proofs.listing.write_block.Goals as goal
 
@@ -13,12 +12,3 @@ pub returns : goal.returns
 returns c =
     let p = c.requires in
     rw (span c.args.place.base, part_records _ _ p.0.0 _ _) at c.write_live.ensures
-
-pub overflow_add-base : goal.overflow_add-base
-overflow_add-base c = omega (arith, c.requires.0.0)
-
-pub offset_bounds-words-base : goal.offset_bounds-words-base
-offset_bounds-words-base c = omega (arith, c.requires.0.0)
-
-pub slice_bounds-write_live-end : goal.slice_bounds-write_live-end
-slice_bounds-write_live-end c = omega (arith, c.requires.0.0)

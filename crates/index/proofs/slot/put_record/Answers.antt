@@ -2,7 +2,7 @@
 use native.Mathlib.Omega.{arith}
 use Rattle.stores.proofs.Stores.{executed_append}
 use Rattle.index_layout.proofs.Places.{place_bounds}
-use Rattle.index.proofs.Answers.{answered_stores}
+use Rattle.replies.proofs.Answers.{answered_stores}
 use Rattle.index.proofs.Puts.{value_stored}
 use Rattle.index.proofs.slot.put_record.Goals as goal
 

@@ -1,7 +1,7 @@
 -- `index::slot::put_value` meets its contract.
 use native.Mathlib.Omega.{arith}
 use Rattle.index_layout.proofs.Places.{place_bounds}
-use Rattle.index.proofs.Answers.{answered_stores}
+use Rattle.replies.proofs.Answers.{answered_stores}
 use Rattle.index.proofs.Puts.{value_stored}
 use Rattle.index.proofs.slot.put_value.Goals as goal
 

@@ -16,10 +16,6 @@ double_entry-due-requires c =
     let r = next_room c.requires.0 c.requires.1 in
     (omega arith, omega arith, omega arith)
 
-pub overflow_step-e : goal.overflow_step-e
-overflow_step-e c =
-    let b = bounds c.requires.0 in omega arith
-
 pub loop-e-preserved : goal.loop-e-preserved
 loop-e-preserved c =
     let i = c.loop-e.invariant in
@@ -40,9 +36,6 @@ store_word-requires c =
     let b = bounds c.requires.0 in
     (omega arith, omega arith)
 
-pub shape_of-words : goal.shape_of-words
-shape_of-words c = executed_length c.store_word.ensures ∙ c.loop-e.invariant.2
-
 pub returns : goal.returns
 returns c =
     double_end c.requires.0 _ _ _
@@ -56,9 +49,3 @@ pow2-count-requires c = let b = bounds c.requires.0 in omega arith
 
 pub overflow_mul-e-end : goal.overflow_mul-e-end
 overflow_mul-e-end c = let b = bounds c.requires.0 in omega arith
-
-pub loop-e-smaller : goal.loop-e-smaller
-loop-e-smaller c = omega arith
-
-pub overflow_add-header : goal.overflow_add-header
-overflow_add-header c = let b = bounds c.requires.0 in omega arith

@@ -6,23 +6,11 @@ use mathlib.Core.Path.{◌≡◌, ◌∙◌}
 use mathlib.Core.List.{[], ◌∷◌}
 use Rattle.stores.specs.Store.{store}
 use Rattle.stores.proofs.Loops.{before_loop, after_turn, executed_length}
-use Rattle.index_directory.proofs.Buddies.{joined_fit, join_done}
+use Rattle.index_directory.proofs.Buddies.{join_done}
 use Rattle.index_directory.proofs.join.join_entries.Goals as goal
-
-pub overflow_add-first : goal.overflow_add-first
-overflow_add-first c = let f = joined_fit c.requires.0 in omega (arith, f.entries, f.inside, c.pow2.ensures)
 
 pub loop-t-init : goal.loop-t-init
 loop-t-init c = (omega arith, omega arith, search rules, before_loop (λ (t : ℕ). store (_ + t) _ ∷ []) _ _ _)
-
-pub store_word-due-requires : goal.store_word-due-requires
-store_word-due-requires c =
-    let f = joined_fit c.requires.0 in
-    let i = c.loop-t.invariant in
-    let w = c.block_width-count.ensures in (
-      omega (arith, f.inside, f.room, w, c.pow2.ensures, i.2),
-      omega (arith, f.inside, f.entries, w, i.1, c.requires.1),
-    )
 
 pub loop-t-preserved : goal.loop-t-preserved
 loop-t-preserved c =

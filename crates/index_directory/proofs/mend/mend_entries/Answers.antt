@@ -34,11 +34,6 @@ mend_entry-due-requires c =
     let b = bounds c.requires.0.0 in
     (omega arith, omega arith)
 
-pub overflow_step-i : goal.overflow_step-i
-overflow_step-i c =
-    let b = bounds c.requires.0.0 in omega
-    (arith)
-
 pub loop-i-preserved : goal.loop-i-preserved
 loop-i-preserved c =
     let d = c.requires.0.0 in
@@ -58,9 +53,6 @@ loop-i-preserved c =
       mend_turn d _ _ _ k c.loop-i.i _ _ _ _ n f i.4 p,
     )
 
-pub shape_of-words : goal.shape_of-words
-shape_of-words c = c.loop-i.invariant.2
-
 pub returns : goal.returns
 returns c =
     mend_end c.requires.0.0 _ _ _ c.pow2-count.ensures c.loop-i.i _ _ (omega arith)
@@ -77,6 +69,3 @@ offset_bounds-words-at c = let b = bounds c.requires.0.0 in omega arith
 
 pub bounds-words-at : goal.bounds-words-at
 bounds-words-at c = let b = bounds c.requires.0.0 in omega arith
-
-pub loop-i-smaller : goal.loop-i-smaller
-loop-i-smaller c = omega arith

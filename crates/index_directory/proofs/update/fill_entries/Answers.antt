@@ -14,9 +14,6 @@ loop-t-init c =
     let a = c.args in
     (omega arith, omega arith, search rules, before_loop (λ (t : ℕ). store (a.first + (a.count - suc t)) a.entry ∷ []) _ _ _)
 
-pub store_word-due-requires : goal.store_word-due-requires
-store_word-due-requires c = (omega arith, omega arith)
-
 pub loop-t-preserved : goal.loop-t-preserved
 loop-t-preserved c =
     let a = c.args in
@@ -30,17 +27,8 @@ loop-t-preserved c =
       after_turn (λ (t : ℕ). store (a.first + (a.count - suc t)) a.entry ∷ []) t _ _ _ _ _ _ _ i.3 (rw (← same) p),
     )
 
-pub shape_of-words : goal.shape_of-words
-shape_of-words c = c.loop-t.invariant.2
-
 pub returns : goal.returns
 unfolding filling
 returns c =
     let e : c.loop-t.t ≡ c.args.count = omega arith in
     rw e at c.loop-t.invariant.3
-
-pub overflow_step-t : goal.overflow_step-t
-overflow_step-t c = omega arith
-
-pub loop-t-smaller : goal.loop-t-smaller
-loop-t-smaller c = omega arith

@@ -1,5 +1,4 @@
 -- `index_directory::update::update_entries` meets its contract.
-use mathlib.Core.Path.{◌∙◌}
 use native.Mathlib.Omega.{arith}
 use Rattle.stores.proofs.Loops.{executed_length}
 use Rattle.index_directory.proofs.Updates.{length_filling, halves_fit, update_done}
@@ -22,11 +21,6 @@ fill_entries-requires c =
       omega (arith, c.requires.1, rw length_filling at p.count),
     )
 
-pub shape_of-words : goal.shape_of-words
-shape_of-words c =
-    executed_length c.fill_entries.ensures ∙ executed_length
-    c.fill_entries-due.ensures
-
 pub returns : goal.returns
 returns c =
     update_done
@@ -36,9 +30,6 @@ returns c =
     c.pack_entry-left_entry.ensures
     c.pack_entry-right_entry.ensures
     c.fill_entries-due.ensures c.fill_entries.ensures
-
-pub overflow_add-left : goal.overflow_add-left
-overflow_add-left c = let h = halves_fit c.requires.0 in omega arith
 
 pub overflow_add-right : goal.overflow_add-right
 overflow_add-right c = let h = halves_fit c.requires.0 in omega arith

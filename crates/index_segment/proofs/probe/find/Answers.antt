@@ -5,25 +5,15 @@ use borrow.Author.Rules.{rules}
 use native.Mathlib.Omega.{arith}
 use mathlib.Core.Path.{◌≡◌, refl, sym}
 use Rattle.index_rules.specs.Slots.{hit}
-use Rattle.index_laws.proofs.Keys.{window_bucket_lt, window_each}
+use Rattle.index_laws.proofs.Keys.{window_each}
 use Rattle.index_segment.proofs.Search.{no_slot_yet, no_bucket_yet, slot_passed, slot_hit, no_slot, bucket_passed, bucket_hit, slot_has, slot_has_not}
 use Rattle.index_segment.proofs.probe.find.Goals as goal
 
 pub search-init : goal.search-init
 search-init c = (search rules, refl, no_bucket_yet _ _)
 
-pub bucket_at-bucket-requires : goal.bucket_at-bucket-requires
-bucket_at-bucket-requires c =
-    (search rules, omega (arith, window_bucket_lt c.args.key c.search.b))
-
 pub loop-j-init : goal.loop-j-init
 loop-j-init c = (search rules, c.search.invariant.1, no_slot_yet _ _)
-
-pub overflow_mul-found : goal.overflow_mul-found
-overflow_mul-found c = omega (arith, window_bucket_lt c.args.key c.search.b)
-
-pub overflow_add-found : goal.overflow_add-found
-overflow_add-found c = omega (arith, window_bucket_lt c.args.key c.search.b)
 
 pub loop-j-preserved : goal.loop-j-preserved
 loop-j-preserved c =
@@ -44,7 +34,7 @@ search-preserved c =
     let missing = no_slot _ called.result (rw all at c.loop-j.invariant.2) in (
       search rules,
       c.loop-j.invariant.1,
-      bucket_passed _ c.args.key outer.b called.result called.ensures outer.invariant.2 missing,
+      bucket_passed _ c.args.key outer.b called.result called.ensures.number outer.invariant.2 missing,
     )
 
 pub returns-after-search : goal.returns-after-search
@@ -65,4 +55,4 @@ returns-then-bucket-j c =
     let here = slot_has a.segment.now bucket.result.words called.result j a.key bucket.ensures k c.if-bucket-j.true in
     let first = slot_hit _ called.result j k c.loop-j.invariant.2 here in
     let outer = c.search in
-    sym (bucket_hit _ a.key outer.b called.result called.ensures outer.invariant.2 _ (search rules) first)
+    sym (bucket_hit _ a.key outer.b called.result called.ensures.number outer.invariant.2 _ (search rules) first)

@@ -1,7 +1,7 @@
 -- `index_structure::empty::clear_keys` meets its contract.
 use borrow.Author.Rules.{rules}
 use native.Mathlib.Omega.{arith}
-use mathlib.Core.Path.{◌≡◌, ◌∙◌}
+use mathlib.Core.Path.{◌∙◌}
 use mathlib.Core.List.{List, [], ◌∷◌}
 use Prim.Native.Nat.{ℕ}
 use Rattle.stores.specs.Store.{Store, store}
@@ -25,8 +25,3 @@ loop-slot-preserved c =
       executed_length p ∙ i.2,
       after_turn (cleared c.args.base) _ _ _ _ _ _ _ _ i.3 p,
     )
-
-pub returns : goal.returns
-returns c =
-    let all : c.loop-slot.slot ≡ 64 = omega arith in
-    rw all at c.loop-slot.invariant.3
