@@ -3,16 +3,17 @@
 
 mod output;
 
-ghost use Rattle.std.specs.Prelude.{◌+◌, ◌*◌, ◌≤◌, length, drop};
-ghost use Rattle.stores.specs.Written.{Written};
+ghost use Rattle.std.specs.Prelude.{◌*◌, length};
+ghost use Rattle.text.specs.Output.{HasSpace, Appended};
 ghost use Rattle.text.specs.Parts.{lines_of};
 ghost use Rattle.desk_text.specs.Output.{line_room};
 ghost use Rattle.desk_run.specs.Run.{lines_output};
-ghost use Rattle.desk_run.specs.Progress.{LineRan, NextRan, OutputWritten};
+ghost use Rattle.desk_run.specs.Progress.{LineRan, OutputWritten};
 
-use desk_text::line::{Line, read_line};
-use output::{LINE_ROOM, write_answer, write_other, write_too_long};
-use text::script::next_line;
+use desk_text::line::read_line;
+use output::{LINE_ROOM, write_answer, write_mark};
+use text::output::Output;
+use text::script::Lines;
 
 // The most bytes of a script.
 pub const MOST_BYTES: usize = 16384;
@@ -25,75 +26,41 @@ const INDEX_WORDS: usize = 4160;
 
 const LIST_WORDS: usize = 512;
 
-// How far a run has come: the position in the script, and the bytes written to the output.
-#[derive(Clone, Copy)]
-struct Progress {
-    next: usize,
-    written: usize,
-}
-
-// Runs one line on the index, and writes its line of output from position `at` on.
-fn run_line(line: &[u8], words: &mut [u64], list: &mut [u64], out: &mut [u8], at: usize) -> usize
-    requires { at + line_room ≤ length out.old }
-    ensures { LineRan line.now list.old words.old at out.old result words.new out.new }
+// Runs one line on the index, and writes its line of output; for a line that is no call a question mark.
+fn run_line(line: &[u8], words: &mut [u64], list: &mut [u64], output: &mut Output)
+    requires { HasSpace line_room output.old }
+    ensures { LineRan line.now list.old words.old output.old words.new output.new }
 {
-    let Line::Called { letter, call } = read_line(line) else {
-        return write_other(out, at);
+    let Some(called) = read_line(line) else {
+        return write_mark(b'?', output);
     };
-    let answer = index::perform(words, list, call);
-    write_answer(letter, answer, out, at)
+    let answer = index::perform(words, list, called.call);
+    write_answer(called.letter, answer, output)
 }
 
-// Runs the next line of the script from position `from` on, past empty lines, if one is left.
-fn run_next(
-    script: &[u8],
-    from: usize,
-    words: &mut [u64],
-    list: &mut [u64],
-    out: &mut [u8],
-    at: usize,
-) -> Progress
-    requires { at + line_room * length (lines_of (drop from script.now)) ≤ length out.old }
-    ensures { NextRan script.now from list.old words.old at out.old result words.new out.new }
+// Runs all lines of a script.
+fn run_lines(script: &[u8], words: &mut [u64], list: &mut [u64], output: &mut Output)
+    requires { HasSpace (line_room * length (lines_of script.now)) output.old }
+    ensures { Appended (lines_output (length list.old) words.old script.now) output.old output.new }
 {
-    let line = next_line(script, from);
-    let start = line.start;
-    let end = line.end;
-    if start == end {
-        return Progress {
-            next: end,
-            written: at,
-        };
+    for line in Lines::of(script) {
+        run_line(line, words, list, output);
     }
-    let written = run_line(&script[start..end], words, list, out, at);
-    Progress { next: end, written }
-}
-
-// Runs all lines of a script, and answers the number of bytes written.
-fn run_lines(script: &[u8], words: &mut [u64], list: &mut [u64], out: &mut [u8]) -> usize
-    requires { line_room * length (lines_of script.now) ≤ length out.old }
-    ensures { Written (lines_output (length list.old) words.old script.now) 0 out.old result out.new }
-{
-    let mut next = 0;
-    let mut written = 0;
-    while next < script.len() {
-        let step = run_next(script, next, words, list, out, written);
-        next = step.next;
-        written = step.written;
-    }
-    written
 }
 
 // Runs the script as the desk program does, on an index of words that are all 0, and answers the
-// number of bytes written. A script of too many bytes is not run, and one line says so. The list array
-// is room for listings: no output depends on what it holds.
+// number of bytes written. A script of too many bytes is not run, and an exclamation mark says so. The
+// list array is room for listings: no output depends on what it holds.
 pub fn run(script: &[u8], out: &mut [u8; OUTPUT_BYTES]) -> usize
     ensures { OutputWritten script.now out.old result out.new }
 {
+    let mut output = Output::new(out);
     if MOST_BYTES < script.len() {
-        return write_too_long(out, 0);
+        write_mark(b'!', &mut output);
+        return output.written;
     }
     let mut words = [0u64; INDEX_WORDS];
     let mut list = [0u64; LIST_WORDS];
-    run_lines(script, &mut words, &mut list, out)
+    run_lines(script, &mut words, &mut list, &mut output);
+    output.written
 }

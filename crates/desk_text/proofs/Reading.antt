@@ -1,189 +1,176 @@
--- A text in parts, one part after the other, and the call that a line's fields make.
-use Prim.Native.Nat.{ℕ, suc, ◌+◌, ◌-◌, ◌≤◌, ◌<◌}
-use mathlib.Core.Path.{◌≡◌, refl, sym, ap, ◌∙◌}
-use mathlib.Core.Bool.{Bool, true, false, false≢true, not}
-use mathlib.Core.List.{List, [], ◌∷◌, ◌++◌}
-use mathlib.Core.Option.{Option, none, some}
-use mathlib.Core.Logic.{⊎_elim}
-use native.Mathlib.Omega.{arith}
-use borrow.Author.Tests.{eqb-true, ne_eqb}
-use lib.Dec.{eqb}
-use lib.ListN.{length, take, drop, get_or, set}
-use lib.Seq.{take_all, take-suc-set}
-use Rattle.stores.proofs.Lists.{ahead, ahead_nil, ahead_ahead}
-use Rattle.text.specs.Scan.{index_of, slice}
-use Rattle.stores.specs.Lists.{pick}
-use Rattle.stores.proofs.Tests.{cases}
-use Rattle.text.specs.Parts.{tab, started_by, parts, fields_of}
+-- The call of a line's fields, taken one after the other.
+use Rattle.std.proofs.Common.{◌≡◌, ℕ, ◌^◌, ◌<◌, ◌≤◌, List, [], ◌∷◌, length, get_or, refl, ap, ◌∙◌, arith}
+use Rattle.std.proofs.Math.Option.{Option, none, some}
+use mathlib.Core.Logic.{inl, inr}
+use borrow.Author.Tests.{lt-ltb, le-ltb, ne_eqb}
+use Rattle.index_rules.specs.declared.Call.{Call}
+use Rattle.index_rules.specs.declared.Call.TheVariants.{Format, Put, Remove, Mend}
+use Rattle.text.specs.Parts.{tab, parts, fields_of}
 use Rattle.text.specs.Number.{number}
-use Rattle.text.proofs.Parts.{behind, parts_first, part_first, part_last, part_more}
-use Rattle.desk_text.specs.declared.fields.Fields.{Fields}
-use Rattle.desk_text.specs.Fields.{numbers_held, fields_call}
-use Rattle.desk_text.specs.Line.{Spoken, both, numbers_of, call_with, called_with, call_of_fields, call_of}
+use Rattle.desk_text.specs.Line.{letter_format, letter_put, letter_get, letter_remove, letter_mend, letter_list, Spoken, spoken, both, numbers_of, allowed, call_with, called_with, call_of_fields, call_of}
+use Rattle.desk_text.specs.Fields.{NumberTaken, AllowanceTaken, if_last}
 
-both_some : (x : ℕ) (o : Option (List ℕ)) → both (some x) o ≡ ahead (x ∷ []) o
-unfolding both ahead
-both_some x none = refl
-both_some x (some ns) = refl
+-- What a rule gives for numbers, where all of them are there.
+unfoldable pub after : (List ℕ → Option Spoken) → Option (List ℕ) → Option Spoken
+after rule none = none
+after rule (some ns) = rule ns
 
--- A tab is no letter.
-no_tab_call : (o : Option (List ℕ)) → called_with tab o ≡ none
-unfolding called_with call_with
-no_tab_call none = refl
-no_tab_call (some []) = refl
-no_tab_call (some (x ∷ [])) = refl
-no_tab_call (some (x ∷ y ∷ [])) = refl
-no_tab_call (some (x ∷ y ∷ z ∷ [])) = refl
-no_tab_call (some (x ∷ y ∷ z ∷ w ∷ ns)) = refl
+pub called_after : (c : ℕ) (o : Option (List ℕ)) → called_with c o ≡ after (call_with c) o
+unfolding called_with after
+called_after c none = refl
+called_after c (some ns) = refl
 
-call_of_fields_holds : (c : ℕ) (xs : List ℕ) (fields : List (List ℕ)) → parts tab xs ≡ [] ∷ fields → call_of (c ∷ xs) ≡ called_with c (numbers_of fields)
-unfolding call_of fields_of parts started_by call_of_fields
-call_of_fields_holds c xs fields e =
-    ⊎_elim
-    (λ (t : eqb c tab ≡ true). rw (t, eqb-true c tab t) (sym (no_tab_call (numbers_of fields))))
-    (λ (t : eqb c tab ≡ false). rw (t, e))
-    (cases (eqb c tab))
+-- A rule that gives nothing, whatever the numbers.
+pub never : (rule : List ℕ → Option Spoken) (o : Option (List ℕ)) → ((ns : List ℕ) → rule ns ≡ none) → after rule o ≡ none
+unfolding after
+never rule none h = refl
+never rule (some ns) h = h ns
 
-no_call : (c d : ℕ) (ps : List (List ℕ)) → call_of_fields (started_by c (started_by d ps)) ≡ none
-unfolding call_of_fields started_by
-no_call c d [] = refl
-no_call c d (p ∷ ps) = refl
+-- The first field has been read.
+pub number_taken : (fields later : List (List ℕ)) (field : List ℕ) (r : Option ℕ) → fields ≡ field ∷ later → r ≡ number field
+    → NumberTaken fields r later
+unfolding numbers_of both
+number_taken fields later field none e r = inr (rw (e, ← r))
+number_taken fields later field (some n) e r = rw (e, ← r)
 
-pub read_nothing : (line : List ℕ) → length line ≡ 0 → call_of line ≡ none
-unfolding call_of fields_of parts call_of_fields
-read_nothing [] e = refl
-read_nothing (c ∷ xs) e = absurd (omega arith)
+-- There is no number where the rule asks for one.
+pub stopped : (rule : List ℕ → Option Spoken) (fields : List (List ℕ)) → NumberTaken fields none [] → rule [] ≡ none
+    → after rule (numbers_of fields) ≡ none
+unfolding after numbers_of
+stopped rule fields (inl empty) h = rw empty h
+stopped rule fields (inr no_number) h = rw no_number refl
 
-pub read_letter : (line : List ℕ) → length line ≡ 1 → call_of line ≡ call_with (get_or line 0 0) []
-unfolding numbers_of called_with parts
-read_letter [] e = absurd (omega arith)
-read_letter (c ∷ []) e = call_of_fields_holds c [] [] refl
-read_letter (c ∷ d ∷ xs) e = absurd (omega arith)
+module _ (rule : List ℕ → Option Spoken) (fields later : List (List ℕ)) where
+  -- A number has been taken: the rule is left for the numbers behind it.
+  pub taken : (n : ℕ) → NumberTaken fields (some n) later → after rule (numbers_of fields) ≡ after (λ ns. rule (n ∷ ns)) (numbers_of later)
+  unfolding after both
+  taken n t = rw t (behind (numbers_of later))
+    where
+      behind : (o : Option (List ℕ)) → after rule (both (some n) o) ≡ after (λ ns. rule (n ∷ ns)) o
+      behind none = refl
+      behind (some ns) = refl
 
-pub read_untabbed : (line : List ℕ) → 1 < length line → (get_or line 1 0 ≡ tab → ⊥) → call_of line ≡ none
-unfolding call_of fields_of parts call_of_fields
-read_untabbed [] h n = absurd (omega arith)
-read_untabbed (c ∷ []) h n = absurd (omega arith)
-read_untabbed (c ∷ d ∷ xs) h n =
-    rw (ne_eqb d tab n)
-    (⊎_elim
-    (λ (t : eqb c tab ≡ true). rw t)
-    (λ (t : eqb c tab ≡ false). rw t (no_call c d (parts tab xs)))
-    (cases (eqb c tab)))
+  -- There is no allowance where the rule asks for one.
+  pub stopped_allowance : AllowanceTaken fields none later → rule [] ≡ none → ((n : ℕ) (ns : List ℕ) → 2 ^ 32 ≤ n → rule (n ∷ ns) ≡ none)
+      → after rule (numbers_of fields) ≡ none
+  stopped_allowance (inl t) h k = stopped rule fields t h
+  stopped_allowance (inr large) h k =
+      taken large.0 large.2 ∙ never (λ ns. rule (large.0 ∷ ns)) (numbers_of later) (λ ns. k large.0 ns large.1)
 
--- A line has been read up to position `start`: it is the letter's call with the numbers ns and those that still follow.
-abbrev pub Reading : (line : List ℕ) (letter start : ℕ) (ns : List ℕ) → Type 0
-Reading line letter start ns = call_of line ≡ called_with letter (ahead ns (numbers_of (fields_of (drop start line))))
-
-pub read_tabbed : (line : List ℕ) → 1 < length line → get_or line 1 0 ≡ tab → Reading line (get_or line 0 0) 2 []
-unfolding fields_of parts ahead
-read_tabbed [] h e = absurd (omega arith)
-read_tabbed (c ∷ []) h e = absurd (omega arith)
-read_tabbed (c ∷ d ∷ xs) h e = call_of_fields_holds c (d ∷ xs) (parts tab xs) (rw e refl) ∙ ap (called_with c) (sym (ahead_nil (numbers_of (parts tab xs))))
-
-module _ (line : List ℕ) (letter start end : ℕ) (ns : List ℕ) (h : start ≤ length line)
-    (e : end ≡ start + index_of tab (slice start (length line) line)) (r : Reading line letter start ns)
+-- The rule asks for no number more.
+pub last : (rule : List ℕ → Option Spoken) (fields : List (List ℕ)) (c : ℕ) (call : Call) → rule [] ≡ some (spoken c call)
+    → ((n : ℕ) (ns : List ℕ) → rule (n ∷ ns) ≡ none) → after rule (numbers_of fields) ≡ if_last c call fields
+unfolding after numbers_of both
+last rule [] c call h k = h
+last rule (field ∷ fields) c call h k = more (number field) (numbers_of fields)
   where
-    -- The next field is no number.
-    pub read_refused : number (take (end - start) (drop start line)) ≡ none → call_of line ≡ none
-    unfolding fields_of numbers_of both ahead called_with
-    read_refused n = r ∙ rw (part_first tab line start end h e, n)
+    more : (n : Option ℕ) (o : Option (List ℕ)) → after rule (both n o) ≡ none
+    more none o = refl
+    more (some n) none = refl
+    more (some n) (some ns) = k n ns
 
-    read_number : (x : ℕ) → number (take (end - start) (drop start line)) ≡ some x
-        → call_of line ≡ called_with letter (ahead (ns ++ (x ∷ [])) (numbers_of (behind tab (drop start line))))
-    unfolding fields_of numbers_of
-    read_number x n =
-        r
-        ∙ rw (part_first tab line start end h e, n, both_some x (numbers_of (behind tab (drop start line))))
-        (ap (called_with letter) (ahead_ahead ns (x ∷ []) (numbers_of (behind tab (drop start line)))))
+-- ---- The letters' rules: no number more, an allowance that is none, and the call
 
-    -- It is one, and another field follows.
-    pub read_more : (x : ℕ) → number (take (end - start) (drop start line)) ≡ some x → end < length line
-        → Reading line letter (end + 1) (ns ++ (x ∷ []))
-    unfolding fields_of
-    read_more x n more =
-        read_number x n
-        ∙ ap (λ (fields : List (List ℕ)). called_with letter (ahead (ns ++ (x ∷ [])) (numbers_of fields))) (part_more tab line start end h e more)
+pub list_ends : (n : ℕ) (ns : List ℕ) → call_with letter_list (n ∷ ns) ≡ none
+unfolding call_with
+list_ends n [] = refl
+list_ends n (a ∷ []) = refl
+list_ends n (a ∷ b ∷ []) = refl
+list_ends n (a ∷ b ∷ d ∷ ns) = refl
 
-    -- It is one, and it is the last.
-    pub read_last : (x : ℕ) → number (take (end - start) (drop start line)) ≡ some x → end ≡ length line
-        → call_of line ≡ call_with letter (ns ++ (x ∷ []))
-    unfolding numbers_of ahead called_with
-    read_last x n last =
-        read_number x n
-        ∙ rw (part_last tab line start end h e last)
-        (ap (call_with letter) (mathlib.Core.List.append-nil (ns ++ (x ∷ []))))
+pub get_ends : (key n : ℕ) (ns : List ℕ) → call_with letter_get (key ∷ n ∷ ns) ≡ none
+unfolding call_with
+get_ends key n [] = refl
+get_ends key n (a ∷ []) = refl
+get_ends key n (a ∷ b ∷ ns) = refl
 
--- No call has four numbers.
-four_numbers : (letter x y z : ℕ) (n : Option ℕ) (o : Option (List ℕ)) → called_with letter (ahead (x ∷ y ∷ z ∷ []) (both n o)) ≡ none
-unfolding called_with call_with ahead both
-four_numbers letter x y z none o = refl
-four_numbers letter x y z (some w) none = refl
-four_numbers letter x y z (some w) (some ns) = refl
+pub mend_ends : (allowance n : ℕ) (ns : List ℕ) → call_with letter_mend (allowance ∷ n ∷ ns) ≡ none
+unfolding call_with
+mend_ends allowance n [] = refl
+mend_ends allowance n (a ∷ []) = refl
+mend_ends allowance n (a ∷ b ∷ ns) = refl
 
-pub read_too_many : (line : List ℕ) (letter start x y z : ℕ) → Reading line letter start (x ∷ y ∷ z ∷ []) → call_of line ≡ none
-unfolding fields_of numbers_of
-read_too_many line letter start x y z r =
-    r ∙ rw (parts_first tab (drop start line)) (four_numbers letter x y z _ _)
+pub mend_large : (n : ℕ) (ns : List ℕ) → 2 ^ 32 ≤ n → call_with letter_mend (n ∷ ns) ≡ none
+unfolding call_with allowed
+mend_large n [] h = rw (le-ltb n (2 ^ 32) h)
+mend_large n (a ∷ ns) h = mend_ends n a ns
 
--- A choice between nothing and nothing.
-pub either_none : (s t : Bool) → pick {A = Option Spoken} s none (pick t none none) ≡ none
-either_none true t = refl
-either_none false true = refl
-either_none false false = refl
+pub mend_called : (n : ℕ) → n < 2 ^ 32 → call_with letter_mend (n ∷ []) ≡ some (spoken letter_mend (Mend n))
+unfolding call_with allowed
+mend_called n h = rw (lt-ltb n (2 ^ 32) h)
 
--- ---- Fields of three numbers at most, as an array holds them
+pub remove_ends : (key allowance n : ℕ) (ns : List ℕ) → call_with letter_remove (key ∷ allowance ∷ n ∷ ns) ≡ none
+unfolding call_with
+remove_ends key allowance n [] = refl
+remove_ends key allowance n (a ∷ ns) = refl
 
-pub no_call_made : (f : Fields) → not f.sound ≡ true → none ≡ fields_call f
-no_call_made f e = go f.sound e
-  where
-    go : (b : Bool) → not b ≡ true → none ≡ pick b (call_with f.letter (numbers_held f)) none
-    go true e = absurd (false≢true e)
-    go false e = refl
+pub remove_large : (key n : ℕ) (ns : List ℕ) → 2 ^ 32 ≤ n → call_with letter_remove (key ∷ n ∷ ns) ≡ none
+unfolding call_with allowed
+remove_large key n [] h = rw (le-ltb n (2 ^ 32) h)
+remove_large key n (a ∷ ns) h = remove_ends key n a ns
 
--- The call of these numbers is that of the fields.
-pub call_made : (f : Fields) (ns : List ℕ) → not f.sound ≡ false → numbers_held f ≡ ns → call_with f.letter ns ≡ fields_call f
-call_made f ns e h = rw (← h) (go f.sound e)
-  where
-    go : (b : Bool) → not b ≡ false → call_with f.letter (numbers_held f) ≡ pick b (call_with f.letter (numbers_held f)) none
-    go true e = refl
-    go false e = absurd (false≢true (sym e))
+pub remove_called : (key n : ℕ) → n < 2 ^ 32 → call_with letter_remove (key ∷ n ∷ []) ≡ some (spoken letter_remove (Remove key n))
+unfolding call_with allowed
+remove_called key n h = rw (lt-ltb n (2 ^ 32) h)
 
-pub first_none : (ns : List ℕ) (n : ℕ) → n ≡ 0 → take n ns ≡ []
-first_none ns n e = rw e refl
+pub three_end : (c x y z n : ℕ) (ns : List ℕ) → call_with c (x ∷ y ∷ z ∷ n ∷ ns) ≡ none
+unfolding call_with
+three_end c x y z n ns = refl
 
-pub first_one : (ns : List ℕ) (n : ℕ) → length ns ≡ 3 → n ≡ 1 → take n ns ≡ get_or ns 0 0 ∷ []
-first_one [] n l e = absurd (omega arith)
-first_one (x ∷ ns) n l e = rw e refl
+pub format_large : (depth segments n : ℕ) (ns : List ℕ) → 2 ^ 32 ≤ n → call_with letter_format (depth ∷ segments ∷ n ∷ ns) ≡ none
+unfolding call_with allowed
+format_large depth segments n [] h = rw (le-ltb n (2 ^ 32) h)
+format_large depth segments n (a ∷ ns) h = refl
 
-pub first_two : (ns : List ℕ) (n : ℕ) → length ns ≡ 3 → n ≡ 2 → take n ns ≡ get_or ns 0 0 ∷ get_or ns 1 0 ∷ []
-first_two [] n l e = absurd (omega arith)
-first_two (x ∷ []) n l e = absurd (omega arith)
-first_two (x ∷ y ∷ ns) n l e = rw e refl
+pub format_called : (depth segments n : ℕ) → n < 2 ^ 32
+    → call_with letter_format (depth ∷ segments ∷ n ∷ []) ≡ some (spoken letter_format (Format depth segments n))
+unfolding call_with allowed
+format_called depth segments n h = rw (lt-ltb n (2 ^ 32) h)
 
-pub first_three : (ns : List ℕ) (n : ℕ) → length ns ≡ 3 → 3 ≤ n → take n ns ≡ get_or ns 0 0 ∷ get_or ns 1 0 ∷ get_or ns 2 0 ∷ []
-first_three [] n l h = absurd (omega arith)
-first_three (x ∷ []) n l h = absurd (omega arith)
-first_three (x ∷ y ∷ []) n l h = absurd (omega arith)
-first_three (x ∷ y ∷ z ∷ []) n l h = take_all n (x ∷ y ∷ z ∷ []) h
-first_three (x ∷ y ∷ z ∷ w ∷ ns) n l h = absurd (omega arith)
+pub put_large : (key value n : ℕ) (ns : List ℕ) → 2 ^ 32 ≤ n → call_with letter_put (key ∷ value ∷ n ∷ ns) ≡ none
+unfolding call_with allowed
+put_large key value n [] h = rw (le-ltb n (2 ^ 32) h)
+put_large key value n (a ∷ ns) h = refl
 
--- A line that goes on behind three numbers is no call.
-pub read_all : (line : List ℕ) (letter start i : ℕ) (ns : List ℕ) → length ns ≡ 3 → 3 ≤ i → Reading line letter start (take i ns) → call_of line ≡ none
-read_all line letter start i ns l h r = read_too_many line letter start _ _ _ (rw (first_three ns i l h) at r)
+pub put_called : (key value n : ℕ) → n < 2 ^ 32 → call_with letter_put (key ∷ value ∷ n ∷ []) ≡ some (spoken letter_put (Put key value n))
+unfolding call_with allowed
+put_called key value n h = rw (lt-ltb n (2 ^ 32) h)
 
--- The next number, written behind the i numbers that an array holds.
-held_grows : (ns : List ℕ) (i x : ℕ) → length ns ≡ 3 → i < 3 → take (i + 1) (set ns i x) ≡ take i ns ++ (x ∷ [])
-held_grows ns i x l k =
-    let next : i + 1 ≡ suc i = omega arith in
-    rw next (take-suc-set ns i x (omega arith))
+pub no_letter : (c : ℕ) → (c ≡ letter_format → ⊥) → (c ≡ letter_put → ⊥) → (c ≡ letter_remove → ⊥) → (c ≡ letter_get → ⊥) → (c ≡ letter_mend → ⊥)
+    → (c ≡ letter_list → ⊥) → (ns : List ℕ) → call_with c ns ≡ none
+unfolding call_with
+no_letter c f p r g m l [] = rw (ne_eqb c letter_list l)
+no_letter c f p r g m l (a ∷ []) = rw (ne_eqb c letter_get g, ne_eqb c letter_mend m)
+no_letter c f p r g m l (a ∷ b ∷ []) = rw (ne_eqb c letter_remove r)
+no_letter c f p r g m l (a ∷ b ∷ d ∷ []) = rw (ne_eqb c letter_format f, ne_eqb c letter_put p)
+no_letter c f p r g m l (a ∷ b ∷ d ∷ e ∷ ns) = refl
 
-module _ (line : List ℕ) (letter start end i : ℕ) (held : List ℕ) (h : start ≤ length line)
-    (e : end ≡ start + index_of tab (slice start (length line) line)) (l : length held ≡ 3) (k : i < 3) (r : Reading line letter start (take i held))
-    (x : ℕ) (n : number (take (end - start) (drop start line)) ≡ some x)
-  where
-    pub held_more : end < length line → Reading line letter (end + 1) (take (i + 1) (set held i x))
-    held_more more = rw (held_grows held i x l k) (read_more line letter start end (take i held) h e r x n more)
+-- No field is left behind the call's own, or one is.
+pub none_behind : (letter : ℕ) (call : Call) (later : List (List ℕ)) → later ≡ [] → some (spoken letter call) ≡ if_last letter call later
+none_behind letter call later e = rw e refl
 
-    pub held_last : end ≡ length line → call_with letter (take (i + 1) (set held i x)) ≡ call_of line
-    held_last last = rw (held_grows held i x l k) (sym (read_last line letter start end (take i held) h e r x n last))
+pub some_behind : (letter : ℕ) (call : Call) (field : List ℕ) (fields later : List (List ℕ)) → later ≡ field ∷ fields → none ≡ if_last letter call later
+some_behind letter call field fields later e = rw e refl
+
+-- ---- The first field
+
+pub fields_call : (line : List ℕ) (fields : List (List ℕ)) → fields ≡ parts tab line → call_of_fields fields ≡ call_of line
+unfolding call_of fields_of
+fields_call line fields e = ap call_of_fields e
+
+pub no_fields : none ≡ call_of_fields []
+unfolding call_of_fields
+no_fields = refl
+
+pub not_a_letter : (field : List ℕ) (later : List (List ℕ)) → (length field ≡ 1 → ⊥) → none ≡ call_of_fields (field ∷ later)
+unfolding call_of_fields
+not_a_letter [] later n = refl
+not_a_letter (c ∷ []) later n = absurd (n refl)
+not_a_letter (c ∷ d ∷ cs) later n = refl
+
+pub letter_first : (field : List ℕ) (later : List (List ℕ)) → 1 ≤ length field → length field < 2
+    → called_with (get_or field 0 0) (numbers_of later) ≡ call_of_fields (field ∷ later)
+unfolding call_of_fields
+letter_first [] later h k = absurd (omega arith)
+letter_first (c ∷ []) later h k = refl
+letter_first (c ∷ d ∷ cs) later h k = absurd (omega arith)

@@ -1,14 +1,25 @@
--- What the code reads of a line before a call is made of it: a letter and numbers.
-use Rattle.std.specs.Prelude.{ℕ, List, take}
-use Rattle.std.proofs.Math.Option.{Option, none}
-use Rattle.stores.specs.Lists.{pick}
-use Rattle.desk_text.specs.declared.fields.Fields.{Fields}
-use Rattle.desk_text.specs.Line.{Spoken, call_with}
+-- What the code takes of a line's fields, one after the other.
+use Rattle.std.specs.Prelude.{ℕ, ◌^◌, ◌<◌, ◌≤◌, ◌≡◌, ◌⊎◌, List, [], ◌∷◌}
+use Rattle.std.proofs.Math.Option.{Option, none, some}
+use Rattle.index_rules.specs.declared.Call.{Call}
+use Rattle.desk_text.specs.Line.{Spoken, spoken, both, numbers_of, called_with}
 
--- The numbers that are there.
-abbrev pub numbers_held : Fields → List ℕ
-numbers_held f = take f.count f.numbers
+-- The first of the fields has been taken as a number, n, and the later ones are left; or there is none, or it is none.
+abbrev pub NumberTaken : (fields : List (List ℕ)) → Option ℕ → (later : List (List ℕ)) → Type 0
+NumberTaken fields none later = (fields ≡ []) ⊎ (numbers_of fields ≡ none)
+NumberTaken fields (some n) later = numbers_of fields ≡ both (some n) (numbers_of later)
 
--- The call of the letter with the numbers, where the line has that form.
-abbrev pub fields_call : Fields → Option Spoken
-fields_call f = pick f.sound (call_with f.letter (numbers_held f)) none
+-- The same of an allowance: a number of 2^32 or more is none.
+abbrev pub AllowanceTaken : (fields : List (List ℕ)) → Option ℕ → (later : List (List ℕ)) → Type 0
+AllowanceTaken fields none later = NumberTaken fields none later ⊎ ((n : ℕ) × (2 ^ 32 ≤ n) × NumberTaken fields (some n) later)
+AllowanceTaken fields (some n) later = (n < 2 ^ 32) × NumberTaken fields (some n) later
+
+-- A call, where no field is left behind its own.
+abbrev pub if_last : (letter : ℕ) → Call → (later : List (List ℕ)) → Option Spoken
+if_last letter call [] = some (spoken letter call)
+if_last letter call (field ∷ later) = none
+
+-- The fields of the letter's call have been taken, and the later ones are left; or the letter has no call with the fields.
+abbrev pub CallTaken : (letter : ℕ) (fields : List (List ℕ)) → Option Call → (later : List (List ℕ)) → Type 0
+CallTaken letter fields none later = called_with letter (numbers_of fields) ≡ none
+CallTaken letter fields (some call) later = called_with letter (numbers_of fields) ≡ if_last letter call later

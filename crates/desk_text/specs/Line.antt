@@ -1,11 +1,10 @@
 -- Document 01, 'The desk program': the lines that are calls.
-use Rattle.std.specs.Prelude.{ℕ, ◌^◌, List, [], ◌∷◌, eqb, ltb}
+use Rattle.std.specs.Prelude.{ℕ, ◌^◌, List, [], ◌∷◌, eqb, ltb, Some, None}
 use Rattle.std.proofs.Math.Option.{Option, none, some}
 use Rattle.stores.specs.Lists.{pick}
 use Rattle.index_rules.specs.declared.Call.{Call}
 use Rattle.index_rules.specs.declared.Call.TheVariants.{Format, Get, Put, Remove, Mend, List as ListCall}
-use Rattle.desk_text.specs.declared.line.Line.{Line}
-use Rattle.desk_text.specs.declared.line.Line.TheVariants.{Called, Other}
+use Rattle.desk_text.specs.declared.line.Called.{Called}
 use Rattle.text.specs.Parts.{fields_of}
 use Rattle.text.specs.Number.{number}
 
@@ -82,6 +81,6 @@ unfoldable pub call_of : List ℕ → Option Spoken
 call_of line = call_of_fields (fields_of line)
 
 -- What the code's reading of a line says.
-abbrev pub line_said : Line → Option Spoken
-line_said (Called letter call) = some (spoken letter call)
-line_said Other = none
+abbrev pub line_said : Rattle.std.specs.Prelude.Option Called → Option Spoken
+line_said (Some called) = some (spoken called.letter called.call)
+line_said None = none

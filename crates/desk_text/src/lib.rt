@@ -1,5 +1,4 @@
-// The text of the desk program: the fields of a line, and the call that they make.
+// The text of the desk program: a line, and the call that it is.
 #![tactic(auto)]
 
-pub mod fields;
 pub mod line;

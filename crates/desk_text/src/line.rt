@@ -1,129 +1,89 @@
 // A line of a script: the call that it is, if it is one.
-ghost use Rattle.std.specs.Prelude.{◌≡◌, [], ◌∷◌};
-ghost use Rattle.desk_text.specs.Line.{call_of, call_with, line_said};
-ghost use Rattle.desk_text.specs.Fields.{fields_call};
+ghost use Rattle.std.specs.Prelude.{◌≡◌};
+ghost use Rattle.stores.specs.Options.{option_of};
+ghost use Rattle.text.specs.Left.{parts_left};
+ghost use Rattle.desk_text.specs.Line.{call_of, line_said};
+ghost use Rattle.desk_text.specs.Fields.{NumberTaken, AllowanceTaken, CallTaken};
 
-use crate::fields::{Fields, read_fields};
 use index_rules::Call;
+use text::TAB;
+use text::number::read_number;
+use text::parts::Parts;
 
-// The first number that is no allowance.
-const ALLOWANCE_LIMIT: u64 = 4294967296;
-
-// What a line is: a call, with the letter that its answer begins with; or some other line.
+// A call, with the letter that its answer begins with.
 #[derive(Clone, Copy)]
-pub enum Line {
-    Called { letter: u8, call: Call },
-    Other,
+pub struct Called {
+    pub letter: u8,
+    pub call: Call,
 }
 
-// The call of a letter alone.
-fn call_of_none(letter: u8) -> Line
-    ensures { line_said result ≡ call_with letter [] }
+// Takes the next field, which is to be a number.
+fn number(fields: &mut Parts) -> Option<u64>
+    ensures { NumberTaken (parts_left fields.old) (option_of result) (parts_left fields.new) }
 {
-    if letter == b'L' {
-        return Line::Called {
-            letter,
-            call: Call::List,
-        };
-    }
-    Line::Other
+    read_number(fields.next()?)
 }
 
-// The call of a letter and one number.
-fn call_of_one(letter: u8, x: u64) -> Line
-    ensures { line_said result ≡ call_with letter (x ∷ []) }
+// Takes the next field, which is to be an allowance: a number below 2^32.
+fn allowance(fields: &mut Parts) -> Option<u32>
+    ensures { AllowanceTaken (parts_left fields.old) (option_of result) (parts_left fields.new) }
 {
-    if letter == b'G' {
-        return Line::Called {
-            letter,
-            call: Call::Get { key: x },
-        };
-    }
-    if letter != b'M' {
-        return Line::Other;
-    }
-    if ALLOWANCE_LIMIT <= x {
-        return Line::Other;
-    }
-    let allowance = x as u32;
-    Line::Called {
-        letter,
-        call: Call::Mend { allowance },
-    }
+    u32::try_from(number(fields)?).ok()
 }
 
-// The call of a letter and two numbers.
-fn call_of_two(letter: u8, x: u64, y: u64) -> Line
-    ensures { line_said result ≡ call_with letter (x ∷ y ∷ []) }
+// Takes the fields of the letter's call.
+fn read_call(letter: u8, fields: &mut Parts) -> Option<Call>
+    ensures { CallTaken letter (parts_left fields.old) (option_of result) (parts_left fields.new) }
 {
-    if letter != b'R' {
-        return Line::Other;
-    }
-    if ALLOWANCE_LIMIT <= y {
-        return Line::Other;
-    }
-    let allowance = y as u32;
-    Line::Called {
-        letter,
-        call: Call::Remove { key: x, allowance },
-    }
-}
-
-// The call of a letter and three numbers.
-fn call_of_three(letter: u8, x: u64, y: u64, z: u64) -> Line
-    ensures { line_said result ≡ call_with letter (x ∷ y ∷ z ∷ []) }
-{
-    if ALLOWANCE_LIMIT <= z {
-        return Line::Other;
-    }
-    let allowance = z as u32;
-    if letter == b'F' {
-        return Line::Called {
-            letter,
-            call: Call::Format {
-                depth: x,
-                segments: y,
+    match letter {
+        b'F' => {
+            let depth = number(fields)?;
+            let segments = number(fields)?;
+            let allowance = allowance(fields)?;
+            Some(Call::Format {
+                depth,
+                segments,
                 allowance,
-            },
-        };
-    }
-    if letter == b'P' {
-        return Line::Called {
-            letter,
-            call: Call::Put {
-                key: x,
-                value: y,
+            })
+        }
+        b'P' => {
+            let key = number(fields)?;
+            let value = number(fields)?;
+            let allowance = allowance(fields)?;
+            Some(Call::Put {
+                key,
+                value,
                 allowance,
-            },
-        };
+            })
+        }
+        b'R' => {
+            let key = number(fields)?;
+            let allowance = allowance(fields)?;
+            Some(Call::Remove { key, allowance })
+        }
+        b'G' => Some(Call::Get {
+            key: number(fields)?,
+        }),
+        b'M' => Some(Call::Mend {
+            allowance: allowance(fields)?,
+        }),
+        b'L' => Some(Call::List),
+        _ => None,
     }
-    Line::Other
 }
 
-// The call of a line's fields.
-pub fn call_of(fields: Fields) -> Line
-    ensures { line_said result ≡ fields_call fields }
-{
-    if !fields.sound {
-        return Line::Other;
-    }
-    let letter = fields.letter;
-    let numbers = fields.numbers;
-    if fields.count == 0 {
-        return call_of_none(letter);
-    }
-    if fields.count == 1 {
-        return call_of_one(letter, numbers[0]);
-    }
-    if fields.count == 2 {
-        return call_of_two(letter, numbers[0], numbers[1]);
-    }
-    call_of_three(letter, numbers[0], numbers[1], numbers[2])
-}
-
-// Reads a line without its line feed.
-pub fn read_line(line: &[u8]) -> Line
+// Reads a line without its line feed: a letter, and numbers each behind a tab.
+pub fn read_line(line: &[u8]) -> Option<Called>
     ensures { line_said result ≡ call_of line.now }
 {
-    call_of(read_fields(line))
+    let mut fields = Parts::of(line, TAB);
+    let [letter] = fields.next()? else {
+        return None;
+    };
+    let letter = *letter;
+    let call = read_call(letter, &mut fields)?;
+    match fields.next() {
+        None => Some(Called { letter, call }),
+        Some(_) => None,
+    }
 }

@@ -1,15 +1,21 @@
 -- Numbers as text: what is read byte by byte, the digits that are written, and that reader and writer agree.
 use Prim.Native.Nat.{ℕ, zero, suc, ◌+◌, ◌-◌, ◌*◌, ◌/◌, ◌%◌, ◌^◌, ◌≤◌, ◌<◌}
-use mathlib.Core.Path.{◌≡◌, refl, sym, ap, ◌∙◌}
+use mathlib.Core.Path.{◌≡◌, refl, sym, ap, subst, ◌∙◌}
 use mathlib.Core.Bool.{Bool, true, false, ◌&&◌, and-false}
 use mathlib.Core.List.{List, [], ◌∷◌, ◌++◌}
 use mathlib.Core.Option.{Option, none, some}
 use native.Mathlib.Nat.{le_refl, pow-suc, div-lt_iff_lt-mul}
 use native.Mathlib.Omega.{arith}
-use borrow.Author.Tests.{ltb-true, ltb-false, lt-ltb, le-ltb, le-leb, lt-leb}
+use borrow.Author.Tests.{ltb-true, ltb-false, leb-true, lt-ltb, le-ltb, le-leb, lt-leb}
 use lib.Dec.{leb, ltb}
 use lib.ListN.{length, length-append}
+use Rattle.std.specs.Prelude.{SomeIff, Some, None}
+use Rattle.std.specs.Char.{digit_value}
+use Rattle.std.specs.Int.{IsInRange}
+use Rattle.std.proofs.lemmas.Str.{digit_value_digit}
+use Rattle.std.proofs.lemmas.Str.Parse.{digit_from_value}
 use Rattle.stores.specs.Lists.{pick}
+use Rattle.stores.specs.Options.{option_of}
 use Rattle.stores.proofs.Tests.{by_test, by_less, and_left, and_right, and_true}
 use Rattle.text.specs.Number.{digit_zero, is_digit, all_digits, value_from, number, with_digit, spelled, decimal, two_digits, four_digits}
 
@@ -32,6 +38,51 @@ number_next v c cs w e = rw e
 pub number_stops : (v c : ℕ) (cs : List ℕ) → with_digit v c ≡ none → number_from v (c ∷ cs) ≡ none
 unfolding number_from and_then
 number_stops v c cs e = rw e
+
+-- A byte that the library reads as a decimal digit is one, and no other byte is.
+digit_read : (c : ℕ) → digit_value c < 10 → (is_digit c ≡ true) × (digit_value c ≡ c - digit_zero)
+unfolding is_digit
+digit_read c h =
+    let range : IsInRange 48 57 c = digit_from_value c h in
+    let value : digit_value c + 48 ≡ c = digit_value_digit c range in
+    (rw (le-leb 48 c range.0, le-leb c 57 range.1) refl, omega arith)
+
+digit_refused : (c : ℕ) → (digit_value c < 10 → ⊥) → is_digit c ≡ false
+unfolding is_digit
+digit_refused c h =
+    by_test (is_digit c)
+    (λ t.
+    let low : 48 ≤ c = leb-true 48 c (and_left (leb 48 c) (leb c 57) t) in
+    let high : c ≤ 57 = leb-true c 57 (and_right (leb 48 c) (leb c 57) t) in
+    let value : digit_value c + 48 ≡ c = digit_value_digit c (low, high) in
+    absurd (h (omega arith)))
+    (λ t. t)
+
+pub no_digit : (v c d : ℕ) → d ≡ c → (digit_value d < 10 → ⊥) → none ≡ with_digit v c
+unfolding with_digit
+no_digit v c d e h = rw (digit_refused c (subst (λ (x : ℕ). digit_value x < 10 → ⊥) e h))
+
+-- Where ten times the number is past 2^64, no digit behind it is read.
+pub ten_times_past : (v c : ℕ) → (v * 10 < 2 ^ 64 → ⊥) → none ≡ with_digit v c
+unfolding with_digit
+ten_times_past v c h =
+    by_test (is_digit c)
+    (λ t. rw (t, le-ltb (10 * v + (c - digit_zero)) (2 ^ 64) (omega arith)))
+    (λ t. rw t)
+
+-- The digit's value added to ten times the number, where the sum is below 2^64.
+pub digit_added : (v c d e x : ℕ) (r : Rattle.std.specs.Prelude.Option ℕ) → d ≡ c → digit_value d < 10 → e ≡ digit_value d → x ≡ v * 10
+    → SomeIff r (x + e < 2 ^ 64) (x + e) → option_of r ≡ with_digit v c
+unfolding with_digit
+digit_added v c d e x None p q r s t =
+    let digit = digit_read c (subst (λ (y : ℕ). digit_value y < 10) p q) in
+    let same : digit_value d ≡ digit_value c = ap digit_value p in
+    rw (digit.0, le-ltb (10 * v + (c - digit_zero)) (2 ^ 64) (omega (arith, digit.1)))
+digit_added v c d e x (Some n) p q r s t =
+    let digit = digit_read c (subst (λ (y : ℕ). digit_value y < 10) p q) in
+    let same : digit_value d ≡ digit_value c = ap digit_value p in
+    let value : n ≡ 10 * v + (c - digit_zero) = omega (arith, digit.1) in
+    rw (digit.0, lt-ltb (10 * v + (c - digit_zero)) (2 ^ 64) (omega (arith, digit.1)), value)
 
 -- More digits never spell less: a number past 2^64 stays past it.
 pub value_grows : (v : ℕ) (cs : List ℕ) → v ≤ value_from v cs

@@ -1,7 +1,8 @@
 -- The laws of texts.
 pub mod Digits
-pub mod Parts
+pub mod FirstPart
+pub mod Appended
+pub mod Progress
 pub mod Lines
-pub mod Indices
 pub mod Joined
 pub mod Samples

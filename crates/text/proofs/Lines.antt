@@ -1,82 +1,61 @@
 -- The lines of a script, one after the other.
-use Prim.Native.Nat.{ℕ, suc, ◌+◌, ◌-◌, ◌*◌, ◌≤◌, ◌<◌}
+use Prim.Native.Nat.{ℕ, suc, ◌+◌, ◌*◌, ◌≤◌}
 use mathlib.Core.Path.{◌≡◌, refl, sym, ap, ◌∙◌}
+use mathlib.Core.Bool.{Bool, true, false, not, false≢true}
 use mathlib.Core.List.{List, [], ◌∷◌}
-use native.Mathlib.Numerals.{add-one}
 use native.Mathlib.Omega.{arith}
-use borrow.Author.Tests.{ne_eqb, lt-ltb, le-ltb}
+use borrow.Author.Tests.{ne_eqb}
+use denote.Param.Members.{Mut}
+use denote.Ref.{Bor}
 use lib.Dec.{eqb}
-use lib.ListN.{length, take, drop, get_or, drop_of_length-le}
-use lib.Seq.{drop-cons, drop-drop}
+use lib.ListN.{length}
+use Rattle.std.specs.Prelude.{Option, Some, None}
+use Rattle.std.specs.Fn.{CalledAt}
+use Rattle.std.specs.Iterator.{Yields, YieldsFirstRef, FindsItem}
+use Rattle.std.specs.List.{FoldsTo}
 use Rattle.stores.proofs.Tests.{by_test}
-use Rattle.text.specs.Scan.{index_of, slice}
+use Rattle.text.specs.declared.parts.Parts.{Parts}
 use Rattle.text.specs.Parts.{line_feed, started_by, parts, nonempty, lines_of}
-use Rattle.text.specs.Script.{NextLine}
-use Rattle.text.proofs.Parts.{parts_first, parts_from, found_index}
+use Rattle.text.specs.Left.{parts_left}
 
 pub lines_none : lines_of [] ≡ []
 unfolding lines_of parts nonempty
 lines_none = refl
 
--- An empty line in front is skipped.
-pub lines_skip : (script : List ℕ) (start : ℕ) → start < length script → get_or script start 0 ≡ line_feed
-    → lines_of (drop start script) ≡ lines_of (drop (start + 1) script)
-unfolding lines_of parts nonempty
-lines_skip script start h e = rw (add-one start, drop-cons script start 0 h, e)
+-- ---- The first part that has a byte
 
--- A line in front goes up to the first line feed.
-line_index : (x : ℕ) (xs : List ℕ) → (x ≡ line_feed → ⊥) → index_of line_feed (x ∷ xs) ≡ suc (index_of line_feed xs)
-unfolding index_of
-line_index x xs n = rw (ne_eqb x line_feed n)
+nonempty_skip : (p : List ℕ) (ps : List (List ℕ)) → false ≡ not (eqb (length p) 0) → nonempty (p ∷ ps) ≡ nonempty ps
+unfolding nonempty
+nonempty_skip [] ps e = refl
+nonempty_skip (x ∷ p) ps e = absurd (false≢true (rw (ne_eqb (suc (length p)) 0 (omega arith)) at e))
 
-lines_first : (x : ℕ) (xs : List ℕ) → (x ≡ line_feed → ⊥)
-    → lines_of (x ∷ xs) ≡ take (index_of line_feed (x ∷ xs)) (x ∷ xs) ∷ lines_of (drop (index_of line_feed (x ∷ xs)) (x ∷ xs))
-unfolding lines_of nonempty
-lines_first x xs n = rw (parts_first line_feed (x ∷ xs), parts_from line_feed (x ∷ xs), line_index x xs n)
+nonempty_here : (p : List ℕ) (ps : List (List ℕ)) → true ≡ not (eqb (length p) 0) → nonempty (p ∷ ps) ≡ p ∷ nonempty ps
+unfolding nonempty
+nonempty_here [] ps e = absurd (false≢true (sym e))
+nonempty_here (x ∷ p) ps e = refl
 
--- The same where the line starts at a position, and is not empty.
-line_from : (script : List ℕ) (start : ℕ) → start < length script → (get_or script start 0 ≡ line_feed → ⊥)
-    → (0 < index_of line_feed (drop start script))
-    × (lines_of (drop start script)
-    ≡ take (index_of line_feed (drop start script)) (drop start script) ∷ lines_of (drop (index_of line_feed (drop start script)) (drop start script)))
-line_from script start h n =
-    rw (drop-cons script start 0 h) (
-      rw (line_index (get_or script start 0) (drop (suc start) script) n) (omega arith),
-      lines_first (get_or script start 0) (drop (suc start) script) n,
-    )
+-- The library's search for a part, by a closure that asks whether it has a byte.
+module _ {F : Type 0} (g : Mut F (Bor (Bor (List ℕ)) × Unit {0}) Bool) (f : F)
+    (asks : (x : Bor (List ℕ)) (b : Bool) (q : F) → CalledAt g f x b q → (q ≡ f) × (b ≡ not (eqb (length x.now) 0)))
+  where
+    passed_over : (xs : List (Bor (List ℕ))) (s t : Parts) (p j : F) → p ≡ f → Yields (YieldsFirstRef parts_left) s xs t
+        → FoldsTo (λ p x q. CalledAt g p x false q) p xs j → (nonempty (parts_left s) ≡ nonempty (parts_left t)) × (j ≡ f)
+    passed_over [] s t p j e y c = (ap (λ u. nonempty (parts_left u)) y, sym c ∙ e)
+    passed_over (x ∷ xs) s t p j e y c =
+        let asked = asks x false c.0 (rw e at c.1) in
+        let later = passed_over xs y.0 t c.0 j asked.0 y.2 c.2 in
+        (rw y.1 (nonempty_skip x.now (parts_left y.0) asked.1) ∙ later.0, later.1)
 
--- The line that has been found.
-pub line_found : (script : List ℕ) (from start end : ℕ) → from ≤ start → start < length script → end ≤ length script
-    → end ≡ start + index_of line_feed (slice start (length script) script) → (get_or script start 0 ≡ line_feed → ⊥)
-    → lines_of (drop from script) ≡ lines_of (drop start script) → NextLine script from start end
-line_found script from start end forward h within e n skipped =
-    let i : end ≡ start + index_of line_feed (drop start script) = found_index line_feed script start end (omega arith) e in
-    let size : end - start ≡ index_of line_feed (drop start script) = omega arith in
-    let first = line_from script start h n in
-    let some_byte : 0 < index_of line_feed (drop start script) = first.0 in
-    let rest : drop (index_of line_feed (drop start script)) (drop start script) ≡ drop end script =
-    drop-drop (index_of line_feed (drop start script)) start script ∙ ap (λ (k : ℕ). drop k script) (sym i) in
-    record {
-      forward = λ near. forward;
-      ordered = omega arith;
-      within = within;
-      none_left = λ same. absurd (omega arith);
-      lines = skipped
-          ∙ rw (lt-ltb start end (omega arith), size)
-          (first.1 ∙ ap (λ (l : List ℕ). take (index_of line_feed (drop start script)) (drop start script) ∷ lines_of l) rest);
-    }
-
--- No line is left.
-pub line_none : (script : List ℕ) (from start : ℕ) → length script ≤ start → lines_of (drop from script) ≡ lines_of (drop start script)
-    → NextLine script from (length script) (length script)
-line_none script from start h skipped =
-    record {
-      forward = λ near. near;
-      ordered = omega arith;
-      within = omega arith;
-      none_left = λ same. refl;
-      lines = skipped ∙ rw (le-ltb (length script) (length script) (omega arith), drop_of_length-le script h) lines_none;
-    }
+    pub first_with_byte : (s : Parts) (r : Option (Bor (List ℕ))) (u : Parts) → FindsItem (YieldsFirstRef parts_left) g s f r u
+        → YieldsFirstRef (λ p. nonempty (parts_left p)) s r u
+    unfolding nonempty
+    first_with_byte s None u found =
+        let before = passed_over found.0 s found.2.0 f found.1 refl found.2.1 found.3 in
+        (before.0 ∙ rw found.2.2.0, rw found.2.2.1)
+    first_with_byte s (Some x) u found =
+        let before = passed_over found.0 s found.2.0 f found.1 refl found.2.1 found.3 in
+        let asked = asks x true found.4.0 (rw before.1 at found.4.1) in
+        before.0 ∙ rw found.2.2 (nonempty_here x.now (parts_left u) asked.1)
 
 -- ---- How many lines there are
 

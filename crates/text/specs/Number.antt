@@ -2,8 +2,6 @@
 use Rattle.std.specs.Prelude.{ℕ, zero, suc, ◌+◌, ◌-◌, ◌*◌, ◌/◌, ◌%◌, ◌^◌, Bool, true, ◌&&◌, List, [], ◌∷◌, ◌++◌, leb, ltb, length}
 use Rattle.std.proofs.Math.Option.{Option, none, some}
 use Rattle.stores.specs.Lists.{pick}
-use Rattle.text.specs.declared.number.Number.{Number}
-use Rattle.text.specs.declared.number.Number.TheVariants.{Is, Not}
 
 -- The byte of the digit 0; the digits follow one another.
 abbrev pub digit_zero : ℕ
@@ -33,11 +31,6 @@ number field =
 -- The number that v and one more byte spell, where the byte is a digit and the number is below 2^64.
 unfoldable pub with_digit : (v c : ℕ) → Option ℕ
 with_digit v c = pick (is_digit c && ltb (10 * v + (c - digit_zero)) (2 ^ 64)) (some (10 * v + (c - digit_zero))) none
-
--- What the code's reading of a field says.
-abbrev pub number_said : Number → Option ℕ
-number_said (Is n) = some n
-number_said Not = none
 
 -- The last `most` digits of n, or fewer where n has fewer.
 unfoldable pub spelled : (most : ℕ) → ℕ → List ℕ

@@ -3,7 +3,7 @@
 
 pub mod number;
 pub mod output;
-pub mod scan;
+pub mod parts;
 pub mod script;
 
 pub const TAB: u8 = b'\t';

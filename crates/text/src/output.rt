@@ -1,76 +1,94 @@
-// Bytes and numbers written to an output buffer, each from a position on; the answer is the position
-// behind them.
-ghost use Rattle.std.specs.Prelude.{◌+◌, ◌≤◌, ◌<◌, [], ◌∷◌, length};
-ghost use Rattle.stores.specs.Written.{Written};
+// Bytes and numbers written to an output, one behind the other.
+ghost use Rattle.std.specs.Prelude.{◌≡◌, ◌<◌, [], ◌∷◌};
 ghost use Rattle.text.specs.Parts.{tab};
 ghost use Rattle.text.specs.Number.{decimal, two_digits, four_digits};
+ghost use Rattle.text.specs.Output.{HasRoom, Appended};
 
 use crate::TAB;
 use crate::number::ZERO;
 
-// Writes one byte at position `at`, and answers the position behind it.
-pub fn write_byte(byte: u8, out: &mut [u8], at: usize) -> usize
-    requires { at < length out.old }
-    ensures { Written (byte ∷ []) at out.old result out.new }
-{
-    out[at] = byte;
-    at + 1
+// A buffer that is filled from its start on: the bytes below `written` have been written.
+#[derive(Drop)]
+pub struct Output<'a> {
+    pub bytes: &'a mut [u8],
+    pub written: usize,
 }
 
-// Writes n, which is below 100, in two digits.
-fn write_two(n: u64, out: &mut [u8], at: usize) -> usize
-    requires { (n < 100) × (at + 2 ≤ length out.old) }
-    ensures { Written (two_digits n) at out.old result out.new }
-{
-    let next = write_byte(ZERO + (n / 10) as u8, out, at);
-    write_byte(ZERO + (n % 10) as u8, out, next)
-}
-
-// Writes n, which is below 10,000, in four digits.
-fn write_four(n: u64, out: &mut [u8], at: usize) -> usize
-    requires { (n < 10000) × (at + 4 ≤ length out.old) }
-    ensures { Written (four_digits n) at out.old result out.new }
-{
-    let next = write_two(n / 100, out, at);
-    write_two(n % 100, out, next)
-}
-
-// Writes n, which is below 10,000, in as many decimal digits as it has.
-fn write_short(n: u64, out: &mut [u8], at: usize) -> usize
-    requires { (n < 10000) × (at + length (decimal n) ≤ length out.old) }
-    ensures { Written (decimal n) at out.old result out.new }
-{
-    if n < 10 {
-        return write_byte(ZERO + n as u8, out, at);
+impl<'a> Output<'a> {
+    // An output with nothing written yet.
+    pub fn new(bytes: &'a mut [u8]) -> Output<'a>
+        ensures same_reference { result.bytes.ghost_name ≡ bytes.entry.ghost_name }
+        ensures bytes { result.bytes.now ≡ bytes.old }
+        ensures written { result.written ≡ 0 }
+    {
+        Output { bytes, written: 0 }
     }
-    if n < 100 {
-        return write_two(n, out, at);
-    }
-    if n < 1000 {
-        let next = write_byte(ZERO + (n / 100) as u8, out, at);
-        return write_two(n % 100, out, next);
-    }
-    write_four(n, out, at)
-}
 
-// Writes n in decimal digits from position `at` on, four at a time, and answers the position behind
-// them.
-pub fn write_decimal(n: u64, out: &mut [u8], at: usize) -> usize
-    requires { at + length (decimal n) ≤ length out.old }
-    ensures { Written (decimal n) at out.old result out.new }
-{
-    if n < 10000 {
-        return write_short(n, out, at);
+    // Writes one byte.
+    pub fn byte(&mut self, byte: u8)
+        requires { HasRoom (byte ∷ []) self.old }
+        ensures { Appended (byte ∷ []) self.old self.new }
+    {
+        self.bytes[self.written] = byte;
+        self.written += 1;
     }
-    let next = write_decimal(n / 10000, out, at);
-    write_four(n % 10000, out, next)
-}
 
-// Writes a tab and n in decimal digits.
-pub fn write_field(n: u64, out: &mut [u8], at: usize) -> usize
-    requires { at + length (tab ∷ decimal n) ≤ length out.old }
-    ensures { Written (tab ∷ decimal n) at out.old result out.new }
-{
-    let next = write_byte(TAB, out, at);
-    write_decimal(n, out, next)
+    // Writes n, which is below 100, in two digits.
+    fn two_digits(&mut self, n: u64)
+        requires low { n < 100 }
+        requires room { HasRoom (two_digits n) self.old }
+        ensures { Appended (two_digits n) self.old self.new }
+    {
+        self.byte(ZERO + (n / 10) as u8);
+        self.byte(ZERO + (n % 10) as u8);
+    }
+
+    // Writes n, which is below 10,000, in four digits.
+    fn four_digits(&mut self, n: u64)
+        requires low { n < 10000 }
+        requires room { HasRoom (four_digits n) self.old }
+        ensures { Appended (four_digits n) self.old self.new }
+    {
+        self.two_digits(n / 100);
+        self.two_digits(n % 100);
+    }
+
+    // Writes n, which is below 10,000, in as many decimal digits as it has.
+    fn short_decimal(&mut self, n: u64)
+        requires low { n < 10000 }
+        requires room { HasRoom (decimal n) self.old }
+        ensures { Appended (decimal n) self.old self.new }
+    {
+        match n {
+            0..10 => self.byte(ZERO + n as u8),
+            10..100 => self.two_digits(n),
+            100..1000 => {
+                self.byte(ZERO + (n / 100) as u8);
+                self.two_digits(n % 100);
+            }
+            _ => self.four_digits(n),
+        }
+    }
+
+    // Writes n in decimal digits, four at a time.
+    pub fn decimal(&mut self, n: u64)
+        requires { HasRoom (decimal n) self.old }
+        ensures { Appended (decimal n) self.old self.new }
+    {
+        if n < 10000 {
+            self.short_decimal(n);
+        } else {
+            self.decimal(n / 10000);
+            self.four_digits(n % 10000);
+        }
+    }
+
+    // Writes a tab and n in decimal digits.
+    pub fn field(&mut self, n: u64)
+        requires { HasRoom (tab ∷ decimal n) self.old }
+        ensures { Appended (tab ∷ decimal n) self.old self.new }
+    {
+        self.byte(TAB);
+        self.decimal(n);
+    }
 }

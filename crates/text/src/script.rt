@@ -1,26 +1,37 @@
 // A script: its lines, one after the other.
-ghost use Rattle.text.specs.Script.{NextLine};
+ghost use Rattle.std.specs.Prelude.{◌≡◌};
+ghost use Rattle.std.specs.Iterator.{YieldsFirstRef, item_count};
+ghost use Rattle.text.specs.Parts.{lines_of};
+ghost use Rattle.text.specs.Left.{lines_left};
 
 use crate::LINE_FEED;
-use crate::scan::find;
+use crate::parts::Parts;
 
-// Where a line stands: from `start` to the byte before `end`.
+// The lines of a script that are still to come. Empty lines are skipped.
 #[derive(Clone, Copy)]
-pub struct Span {
-    pub start: usize,
-    pub end: usize,
+pub struct Lines<'a> {
+    parts: Parts<'a>,
 }
 
-// Finds the next line of the script from position `from` on, past empty lines.
-pub fn next_line(script: &[u8], from: usize) -> Span
-    ensures { NextLine script.now from result.start result.end }
-{
-    for start in from..script.len() {
-        if script[start] != LINE_FEED {
-            let end = find(script, start, script.len(), LINE_FEED);
-            return Span { start, end };
+impl<'a> Lines<'a> {
+    // All lines of a script.
+    pub fn of(script: &'a [u8]) -> Lines<'a>
+        ensures { lines_left result ≡ lines_of script.now }
+    {
+        Lines {
+            parts: Parts::of(script, LINE_FEED),
         }
     }
-    let end = script.len();
-    Span { start: end, end }
+}
+
+impl<'a> Iterator for Lines<'a> {
+    type Item = &'a [u8];
+
+    ghost next_gives = { YieldsFirstRef lines_left };
+
+    ghost remaining = { item_count lines_left };
+
+    fn next(&mut self) -> Option<&'a [u8]> {
+        self.parts.find(|line| !line.is_empty())
+    }
 }

@@ -1,16 +1,13 @@
--- `desk_run::run_lines` meets its contract. The invariant: the lines so far have been run, and the others have room.
-use mathlib.Core.Path.{◌≡◌}
-use Prim.Native.Nat.{◌-◌}
-use lib.ListN.{length}
-use Rattle.desk_run.specs.Progress.{LinesRan}
+-- Some lines have been run, and those that the iterator has left have not.
+use Rattle.std.proofs.Common.{◌≡◌, length}
+use Rattle.text.specs.Parts.{lines_of}
+use Rattle.text.specs.Left.{lines_left}
+use Rattle.desk_run.proofs.Runs.{LinesRan}
 use Rattle.desk_run.proofs.run_lines.Given as goal
 
-abbrev pub invariant-loop-next : goal.invariant-loop-next
-invariant-loop-next l =
-    (length l.words ≡ length l.initial.words)
+abbrev pub invariant-loop-line : goal.invariant-loop-line
+invariant-loop-line l =
+    (goal.iterator-loop-line).can_next l.line-iterator
+    × (goal.iterator-loop-line).is_finite l.line-iterator
     × (length l.list ≡ length l.initial.list)
-    × (length l.out ≡ length l.initial.out)
-    × LinesRan l.script 0 (length l.initial.list) l.initial.words 0 l.initial.out l.next l.written l.words l.out
-
-abbrev pub decreases-loop-next : goal.decreases-loop-next
-decreases-loop-next l = length l.script - l.next
+    × LinesRan (length l.initial.list) l.initial.words (lines_of l.script) l.initial.output (lines_left l.line-iterator) l.words l.output

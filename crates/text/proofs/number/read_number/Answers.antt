@@ -1,46 +1,40 @@
 -- `text::number::read_number` meets its contract. The invariant: what is still to be read behind `value` is the field's number.
-use mathlib.Core.Path.{◌≡◌, refl, sym, ap, ◌∙◌}
-use Prim.Native.Nat.{suc}
-use lib.ListN.{length, get_or, drop}
-use native.Mathlib.Numerals.{add-one}
-use lib.Seq.{drop-cons}
-use native.Mathlib.Omega.{arith}
-use borrow.Author.Rules.{rules}
+use Rattle.std.proofs.Common.{◌≡◌, ◌<◌, ◌≤◌, rules, suc, length, get_or, drop, sym, ◌∙◌, add-one, arith, drop-cons}
 use lib.Seq.{drop-length}
-use Rattle.text.specs.Number.{number_said}
 use Rattle.text.proofs.Digits.{number_from, number_next, number_stops, number_read, number_of_none, number_of_many}
 use Rattle.text.proofs.number.read_number.Goals as goal
+use Rattle.text.proofs.number.read_number.Goals.{then-is_empty-via-then-is_empty, then-is_empty-via-else-is_empty+then-field-gt-MOST_DIGITS}
 
-pub returns-then-field-lt1 : goal.returns-then-field-lt1
-returns-then-field-lt1 c =
-    sym (number_of_none _ c.if-field-lt1.true)
+pub returns-then-is_empty : goal.returns-then-is_empty
+returns-then-is_empty c =
+    elim c.then-is_empty.branch [
+      | then-is_empty-via-then-is_empty w ↦ sym (number_of_none _ (search rules))
+      | then-is_empty-via-else-is_empty+then-field-gt-MOST_DIGITS w ↦ sym (number_of_many _ w.if-field-gt-MOST_DIGITS.true)
+    ]
 
-pub returns-then-field-gt-MOST_DIGITS : goal.returns-then-field-gt-MOST_DIGITS
-returns-then-field-gt-MOST_DIGITS c =
-    sym (number_of_many _ c.if-field-gt-MOST_DIGITS.true)
-
-pub loop-i-init : goal.loop-i-init
-loop-i-init c =
-    (search rules, refl, refl)
-
-pub returns-in_default : goal.returns-in_default
-returns-in_default c =
-    let here = c.loop-i in
+pub returns-in_err-value : goal.returns-in_err-value
+returns-in_err-value c =
+    let here = c.loop-byte in
     let field = c.args.field.now in
-    let stop = number_stops here.value (get_or field here.i 0) (drop (suc here.i) field) (sym c.with_digit.ensures ∙ ap number_said c.in_default.is) in
-    sym (number_read field (search rules) (search rules) ∙ here.invariant.2 ∙ rw (drop-cons field here.i 0 (search rules)) stop)
+    let some_byte : 1 ≤ length field = search rules in
+    let inside : here.byte-index < length field = omega arith in
+    let stop = number_stops here.value (get_or field here.byte-index 0) (drop (suc here.byte-index) field) (sym c.in_err-value.ensures) in
+    rw c.from_residual.ensures (sym (number_read field some_byte (omega arith) ∙ here.invariant ∙ rw (drop-cons field here.byte-index 0 inside) stop))
 
-pub loop-i-preserved : goal.loop-i-preserved
-loop-i-preserved c =
-    let here = c.loop-i in
+pub loop-byte-preserved : goal.loop-byte-preserved
+loop-byte-preserved c =
+    let here = c.loop-byte in
     let field = c.args.field.now in
-    let next = number_next here.value (get_or field here.i 0) (drop (suc here.i) field) _ (sym c.with_digit.ensures ∙ ap number_said c.in-Is.is) in
-    (search rules, search rules, here.invariant.2 ∙ rw (add-one here.i, drop-cons field here.i 0 (search rules)) next)
+    let some_byte : 1 ≤ length field = search rules in
+    let inside : here.byte-index < length field = omega arith in
+    let next = number_next here.value (get_or field here.byte-index 0) (drop (suc here.byte-index) field) _ (sym c.in_ok-value.ensures) in
+    here.invariant ∙ rw (add-one here.byte-index, drop-cons field here.byte-index 0 inside) next
 
 pub returns : goal.returns
 unfolding number_from
 returns c =
-    let here = c.loop-i in
+    let here = c.loop-byte in
     let field = c.args.field.now in
-    let all : here.i ≡ length field = omega arith in
-    sym (number_read field (search rules) (search rules) ∙ here.invariant.2 ∙ rw (all, drop-length field))
+    let some_byte : 1 ≤ length field = search rules in
+    let all : here.byte-index ≡ length field = omega arith in
+    sym (number_read field some_byte (omega arith) ∙ here.invariant ∙ rw (all, drop-length field))

@@ -1,26 +1,14 @@
 -- `text::number::with_digit` meets its contract.
-use Prim.Native.Nat.{◌+◌, ◌-◌, ◌*◌, ◌^◌}
-use borrow.Author.Tests.{lt-ltb, le-ltb, le-leb, lt-leb}
-use native.Mathlib.Omega.{arith}
-use Rattle.text.specs.Number.{is_digit, with_digit}
+use mathlib.Core.Path.{◌∙◌}
+use Rattle.text.proofs.Digits.{no_digit, ten_times_past, digit_added}
 use Rattle.text.proofs.number.with_digit.Goals as goal
 
-pub returns-then-byte-lt-ZERO : goal.returns-then-byte-lt-ZERO
-unfolding with_digit is_digit
-returns-then-byte-lt-ZERO c =
-    simp (lt-leb _ _ c.if-byte-lt-ZERO.true)
+pub returns-in_err-digit : goal.returns-in_err-digit
+returns-in_err-digit c = rw c.from_residual.ensures (no_digit _ _ _ c.from.ensures c.in_err-digit.ensures.value)
 
-pub returns-then-byte-gt-NINE : goal.returns-then-byte-gt-NINE
-unfolding with_digit is_digit
-returns-then-byte-gt-NINE c =
-    simp (le-leb _ _ c.if-byte-lt-ZERO.false, lt-leb _ _ c.if-byte-gt-NINE.true)
-
-pub returns-then-digit-value : goal.returns-then-digit-value
-unfolding with_digit is_digit
-returns-then-digit-value c =
-    simp (le-leb _ _ c.if-byte-lt-ZERO.false, le-leb _ _ c.if-byte-gt-NINE.false, le-ltb (10 * c.args.value + (c.args.byte - 48)) (2 ^ 64) (omega arith))
+pub returns-in_err-checked_mul : goal.returns-in_err-checked_mul
+returns-in_err-checked_mul c = rw c.from_residual-in_err-checked_mul.ensures (ten_times_past _ _ c.in_err-checked_mul.ensures)
 
 pub returns : goal.returns
-unfolding with_digit is_digit
 returns c =
-    simp (le-leb _ _ c.if-byte-lt-ZERO.false, le-leb _ _ c.if-byte-gt-NINE.false, lt-ltb (10 * c.args.value + (c.args.byte - 48)) (2 ^ 64) (omega arith))
+    digit_added _ _ _ _ _ _ c.from.ensures c.in_ok-digit.ensures.value.0 (c.from-2.ensures ∙ c.in_ok-digit.ensures.value.1) c.in_ok-checked_mul.ensures.1 c.checked_add.ensures
