@@ -16,7 +16,7 @@ const EXPECTED_BYTES: usize = 131072;
 fn gives(script: &[u8], expected: &[u8]) -> bool {
     let mut out = [0u8; OUTPUT_BYTES];
     let written = desk_run::run(script, &mut out);
-    out[..written] == *expected
+    &out[..written] == expected
 }
 
 // Runs the script, and writes the rest of its line.
@@ -31,9 +31,17 @@ fn test_script<W: Write>(out: &mut W, script: &[u8], expected: &[u8]) -> io::Res
 
 // The bytes of the file that an argument names, if it can be read and has fewer than so many. An argument that
 // is missing names none.
-fn read_file<R: Files + AllocGlobal>(rt: &R, name: Option<&String>, most: usize) -> Option<Vec<u8>> {
+fn read_file<R: Files + AllocGlobal>(
+    rt: &R,
+    name: Option<&String>,
+    most: usize,
+) -> Option<Vec<u8>> {
     let bytes = fs::read(rt, name?.as_str()).ok()?;
-    if bytes.len() < most { Some(bytes) } else { None }
+    if bytes.len() < most {
+        Some(bytes)
+    } else {
+        None
+    }
 }
 
 // Tests the script that the first of two arguments names against the output that the second names, and writes a
