@@ -1,5 +1,6 @@
 // The arrays of the test: that of the index, that of the model, a saved one, and the list array of the last
-// list; how many words of them are lent to a call; and the counts.
+// list; how many words of them are lent to a call; and the counts. The words behind those lent are compared
+// too, so an array is no vector of just the words lent.
 ghost use Rattle.std.specs.Prelude.{◌≤◌};
 
 use crate::tally::Tally;
