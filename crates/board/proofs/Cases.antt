@@ -11,6 +11,7 @@ use lib.ListN.{length}
 use Rattle.stores.proofs.Lists.{mem_each, each_mem, some_none}
 use Rattle.stores.proofs.Tests.{by_test, by_at_most}
 use Rattle.replies.specs.declared.Answer.{Answer}
+use Rattle.std.specs.Prelude.{Ok}
 use Rattle.replies.specs.declared.Reply.TheVariants.{Value}
 use Rattle.replies.specs.Replies.{Said, done, listed, absent, refused, said_by}
 use Rattle.replies.specs.Writing.{Writing, nothing}
@@ -213,7 +214,7 @@ module _ (a : List ℕ) (year room n : ℕ) (says : (print_year a year room).rep
 
 -- Its bytes are within the buffer.
 pub printed_within : (a : List ℕ) (year : ℕ) (answer : Answer) (before after : List ℕ) (n : ℕ)
-    → Wrote (print_year a year (length before)) answer before after → answer.reply ≡ Value n → n ≤ length before
+    → Wrote (print_year a year (length before)) answer before after → answer.reply ≡ Ok (Value n) → n ≤ length before
 printed_within a year answer before after n p e =
     let d = print_done a year (length before) n (sym p.reply ∙ ap said_by e) in
     rw d.bytes d.fits

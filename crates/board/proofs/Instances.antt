@@ -14,6 +14,7 @@ use Rattle.stores.specs.Lists.{first_in, numbers_same}
 use Rattle.stores.specs.Store.{word, store, apply}
 use Rattle.stores.proofs.Stores.{word_set_other}
 use Rattle.stores.proofs.Lists.{first_next}
+use Rattle.std.specs.Prelude.{Ok}
 use Rattle.replies.specs.declared.Reply.TheVariants.{Value}
 use Rattle.replies.specs.Replies.{done, absent, refused, unless, replied}
 use Rattle.replies.specs.Writing.{Writing, nothing}
@@ -156,7 +157,7 @@ nothing_read = refl
 pub no_job_read_back : PrintCases → ReadsBack → JobsOfYear no_job 2026 []
 no_job_read_back cases back =
     let r =
-    back no_job words_fit 2026 0 (record { reply = Value 0; stores = 0 }) (5 ∷ []) (5 ∷ [])
+    back no_job words_fit 2026 0 (record { reply = Ok (Value 0); stores = 0 }) (5 ∷ []) (5 ∷ [])
     (rw (nothing_printed cases 1) (record { reply = refl; stores = refl; left = refl }))
     refl in
     rw (read_once [] r.1 nothing_read) at r.2
@@ -170,10 +171,10 @@ unfolding jobs_read jobs_of_lines lines_of parts nonempty started_by fields_of j
 october_read = refl
 
 pub october_read_back : ReadsBack → (a : List ℕ) → Words a → (year : ℕ) (before : List ℕ)
-    → Wrote (print_year a year (length before)) (record { reply = Value 9; stores = 0 }) before october_line
+    → Wrote (print_year a year (length before)) (record { reply = Ok (Value 9); stores = 0 }) before october_line
     → JobsOfYear a year (job 10 9 20 ∷ [])
 october_read_back back a words year before wrote =
-    let r = back a words year 9 (record { reply = Value 9; stores = 0 }) before october_line wrote refl in
+    let r = back a words year 9 (record { reply = Ok (Value 9); stores = 0 }) before october_line wrote refl in
     rw (read_once (take 9 october_line) r.1 october_read) at r.2
 
 -- ---- A refused lookup

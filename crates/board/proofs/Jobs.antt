@@ -12,15 +12,15 @@ use Rattle.stores.proofs.Tests.{and_left, and_right, and_true}
 use Rattle.replies.specs.declared.Refusal.{Refusal}
 use Rattle.replies.specs.declared.Refusal.TheVariants.{BadYear, BadMonth, BadNumber}
 use Rattle.replies.specs.declared.Answer.{Answer}
-use Rattle.replies.specs.declared.Reply.TheVariants.{Refused as RefusedReply}
+use Rattle.std.specs.Prelude.{Ok, Err}
 use Rattle.replies.specs.Replies.{number_of, said_by, unless}
 use Rattle.replies.proofs.Sayable.{given_by, unless_given}
 use Rattle.index_rules.specs.declared.Call.{Call}
 use Rattle.index_rules.specs.Step.{outcome_of}
 use Rattle.replies.specs.Answered.{Answered}
-use Rattle.board.specs.declared.job.Keyed.{Keyed}
-use Rattle.board.specs.declared.job.Keyed.TheVariants.{Key, Refused}
-use Rattle.board.specs.Jobs.{valid_year, valid_month, valid_number, job_key, year_tests, job_tests, behind, on_job, KeyedBy}
+use Rattle.board.specs.declared.id.JobId.{JobId}
+use Rattle.board.specs.Jobs.{valid_year, valid_month, valid_number, job_key, year_tests, job_tests, behind, on_job}
+use Rattle.board.specs.Tested.{TestedBy, KeyedBy}
 
 -- ---- Year, month, number
 
@@ -102,28 +102,22 @@ module _ (year month number : ℕ) where
       year_low true e = (year_bounds year e).0
       year_low false e = absurd (some_none BadYear (sym (bad_year e) ∙ t))
 
-  -- What the code's test says, by the case that it is.
-  pub keyed_key : (k : Keyed) (key : ℕ) → KeyedBy k year month number → k ≡ Key key
-      → (job_tests year month number ≡ none) × (key ≡ job_key year month number)
-  keyed_key k key h e = rw e at h
-
-  pub keyed_refused : (k : Keyed) (r : Refusal) → KeyedBy k year month number → k ≡ Refused r → job_tests year month number ≡ some r
-  keyed_refused k r h e = rw e at h
+  -- What the code's test says of the job, of its key.
+  pub key_tested : (id : JobId) (key : ℕ) → TestedBy (Ok id) year month number → key ≡ job_key id.year id.month id.number
+      → KeyedBy (Ok key) year month number
+  key_tested id key t e = (t.0, e ∙ rw (t.1, t.2, t.3) refl)
 
   -- ---- The calls on one job
 
   module _ (a : List ℕ) (call : ℕ → Call) (answer : Answer) where
     -- Behind the tests the index's call on the job's key has been made.
-    pub job_called : (k : Keyed) (key : ℕ) (after : List ℕ) → KeyedBy k year month number → k ≡ Key key
+    pub job_called : (key : ℕ) (after : List ℕ) → KeyedBy (Ok key) year month number
         → Answered (outcome_of a (call key)) answer after → Answered (on_job a year month number call) answer after
     unfolding on_job behind
-    job_called k key after h e d =
-        let p = keyed_key k key h e in
-        rw p.0 (rw p.1 at d)
+    job_called key after p d = rw p.0 (rw p.1 at d)
 
     -- The tests have refused, and no store was made.
-    pub job_refused : (k : Keyed) (r : Refusal) → KeyedBy k year month number → k ≡ Refused r
-        → (answer.reply ≡ RefusedReply r) × (answer.stores ≡ 0) → Answered (on_job a year month number call) answer a
+    pub job_refused : (r : Refusal) → KeyedBy (Err r) year month number
+        → (answer.reply ≡ Err r) × (answer.stores ≡ 0) → Answered (on_job a year month number call) answer a
     unfolding on_job behind
-    job_refused k r h e w =
-        rw (keyed_refused k r h e) (record { reply = ap said_by w.0; stores = w.1; words = refl })
+    job_refused r h w = rw h (record { reply = ap said_by w.0; stores = w.1; words = refl })

@@ -1,22 +1,23 @@
 -- Lists of lookups put together: their jobs, the bytes of their lines, and the first refusal among them.
-use Prim.Native.Nat.{ℕ, zero, suc, ◌+◌, ◌*◌, ◌≤◌, ◌<◌}
+use Prim.Native.Nat.{ℕ, zero, suc, ◌+◌, ◌*◌, ◌/◌, ◌%◌, ◌≤◌, ◌<◌}
 use mathlib.Core.Path.{◌≡◌, refl, sym, ap, ◌∙◌}
-use mathlib.Core.List.{List, [], ◌∷◌, ◌++◌, append_assoc}
+use mathlib.Core.List.{List, [], ◌∷◌, ◌++◌, append_assoc, append-nil}
 use mathlib.Core.Option.{Option, none, some}
 use mathlib.Core.Logic.{⊎_elim}
-use native.Mathlib.Nat.{le_refl, le_step, mul-suc, eq-or-lt_of_le, le_of_suc-le-suc}
+use native.Mathlib.Nat.{add-zero, add-suc, le_refl, le_step, mul-suc, eq-or-lt_of_le, le_of_suc-le-suc}
 use native.Mathlib.Omega.{arith}
 use lib.ListN.{length, length-append}
 use Rattle.stores.specs.Lists.{each}
-use Rattle.stores.specs.Written.{Written}
 use Rattle.stores.proofs.Lists.{each_zero, each_suc, some_none}
-use Rattle.stores.proofs.Written.{written_none, written_append}
+use Rattle.stores.specs.Written.{Written}
+use Rattle.text.specs.declared.output.Output.{Output}
+use Rattle.text.specs.Output.{HasRoom, Appended}
+use Rattle.text.proofs.Appended.{appended_none, appended_append, room_behind}
+use Rattle.std.specs.Prelude.{Ok, Err}
 use Rattle.replies.specs.declared.Refusal.{Refusal}
 use Rattle.replies.specs.Replies.{Said, done, listed, absent, refused, number_of}
-use Rattle.board.specs.declared.count.Counted.{Counted}
-use Rattle.board.specs.declared.count.Counted.TheVariants.{Bytes, Refused}
 use Rattle.board.specs.Print.{Job, job_line, text_of, Lookup, lookup, month_lookups, year_lookups, job_found, jobs_in, lines_in, first_refusal, refused_in, all_numbers}
-use Rattle.board.specs.Passes.{bytes_of, CountedBy, Fit}
+use Rattle.board.specs.Passes.{bytes_of, CountedBy}
 
 -- ---- One list behind another
 
@@ -64,14 +65,6 @@ unfolding refused_in
 refused_front [] ys n e = absurd (some_none n (sym e))
 refused_front (l ∷ ls) ys n e = first_front l.said (refused_in ls) _ n (refused_front ls ys n) e
 
--- ---- What was counted, by the case that it is
-
-pub counted_bytes : (k : Counted) (n : ℕ) (ls : List Lookup) → CountedBy k ls → k ≡ Bytes n → CountedBy (Bytes n) ls
-counted_bytes k n ls h e = rw e at h
-
-pub counted_refusal : (k : Counted) (r : Refusal) (ls : List Lookup) → CountedBy k ls → k ≡ Refused r → CountedBy (Refused r) ls
-counted_refusal k r ls h e = rw e at h
-
 -- ---- The turns of a loop
 
 module _ (f : ℕ → List Lookup) where
@@ -82,11 +75,11 @@ module _ (f : ℕ → List Lookup) where
   bytes_turn n = ap bytes_of (each_suc f n) ∙ bytes_append (each f n) (f n)
 
   -- What a loop has counted before its first turn, after one more, and where it stops at a refused lookup.
-  pub counted_start : CountedBy (Bytes 0) (each f 0)
+  pub counted_start : CountedBy (Ok 0) (each f 0)
   unfolding refused_in jobs_in text_of
   counted_start = rw (each_zero f) (refl, refl)
 
-  pub counted_turn : (n m k : ℕ) → CountedBy (Bytes m) (each f n) → CountedBy (Bytes k) (f n) → CountedBy (Bytes (m + k)) (each f (suc n))
+  pub counted_turn : (n m k : ℕ) → CountedBy (Ok m) (each f n) → CountedBy (Ok k) (f n) → CountedBy (Ok (m + k)) (each f (suc n))
   counted_turn n m k before more = (
     ap refused_in (each_suc f n) ∙ refused_behind (each f n) (f n) before.0 ∙ more.0,
     rw (before.1, more.1) (sym (bytes_turn n)),
@@ -103,8 +96,8 @@ module _ (f : ℕ → List Lookup) where
       (λ (k : n < suc last). refused_turn last m (refused_later m n last (le_of_suc-le-suc k) e))
       (eq-or-lt_of_le h)
 
-  pub counted_stops : (n m : ℕ) (r : Refusal) (last : ℕ) → n < last → CountedBy (Bytes m) (each f n) → CountedBy (Refused r) (f n)
-      → CountedBy (Refused r) (each f last)
+  pub counted_stops : (n m : ℕ) (r : Refusal) (last : ℕ) → n < last → CountedBy (Ok m) (each f n) → CountedBy (Err r) (f n)
+      → CountedBy (Err r) (each f last)
   counted_stops n m r last h before stop =
       refused_later (number_of r) (suc n) last h
       (ap refused_in (each_suc f n) ∙ refused_behind (each f n) (f n) before.0 ∙ stop)
@@ -139,21 +132,27 @@ module _ (f : ℕ → List Lookup) where
       omega arith
 
   -- What a loop has written before its first turn, and after one more; and that its next turn's lines fit where all do.
-  pub written_start : (at : ℕ) (l : List ℕ) → Written (lines_in (each f 0)) at l at l
+  pub written_start : (o : Output) → Appended (lines_in (each f 0)) o o
   unfolding jobs_in text_of
-  written_start at l = rw (each_zero f) (written_none at l)
+  written_start o = rw (each_zero f) (appended_none o)
 
-  pub written_turn : (n at : ℕ) (l : List ℕ) (next : ℕ) (l₁ : List ℕ) (next₂ : ℕ) (l₂ : List ℕ) → at ≤ length l
-      → Written (lines_in (each f n)) at l next l₁ → Written (lines_in (f n)) next l₁ next₂ l₂ → Written (lines_in (each f (suc n))) at l next₂ l₂
-  written_turn n at l next l₁ next₂ l₂ h w v =
-      rw (lines_turn n) (written_append (lines_in (each f n)) (lines_in (f n)) at l next l₁ next₂ l₂ h w v)
+  module _ (n last : ℕ) (o o₁ : Output) (early : n < last) (fits : HasRoom (lines_in (each f last)) o) (w : Appended (lines_in (each f n)) o o₁) where
+    both_fit : HasRoom (lines_in (each f n) ++ lines_in (f n)) o
+    both_fit =
+        let b = bytes_within n last early in
+        let e = length-append (lines_in (each f n)) (lines_in (f n)) in
+        omega arith
 
-  pub turn_fits : (n last at : ℕ) (l : List ℕ) (next : ℕ) (l₁ : List ℕ) → n < last → length l₁ ≡ length l
-      → Written (lines_in (each f n)) at l next l₁ → Fit (each f last) at l → Fit (f n) next l₁
-  turn_fits n last at l next l₁ h same w k =
-      let e : next ≡ at + bytes_of (each f n) = w.behind in
-      let b = bytes_within n last h in
-      omega arith
+    pub turn_fits : HasRoom (lines_in (f n)) o₁
+    turn_fits = room_behind (lines_in (each f n)) (lines_in (f n)) o o₁ both_fit w
+
+    pub written_turn : (o₂ : Output) → Appended (lines_in (f n)) o₁ o₂ → Appended (lines_in (each f (suc n))) o o₂
+    written_turn o₂ v = rw (lines_turn n) (appended_append (lines_in (each f n)) (lines_in (f n)) o o₁ both_fit w o₂ v)
+
+-- The buffer of an output, as it is left.
+pub written_to : (ls : List Lookup) (before : List ℕ) (o : Output) (after : List ℕ) → Written (lines_in ls) 0 before o.written o.bytes.now
+    → after ≡ o.bytes.now → Written (lines_in ls) 0 before o.written after
+written_to ls before o after w e = rw e w
 
 -- ---- A month, and a year
 
@@ -185,3 +184,32 @@ month_each a year month = month_numbers a year month 4096
 pub year_each : (a : List ℕ) (year : ℕ) → year_lookups a year all_numbers ≡ each (month_turn a year) 12
 unfolding year_lookups
 year_each a year = refl
+
+-- The lookup of the job at a place of its year, as a turn of the loop over all of them.
+abbrev pub place_turn : List ℕ → (year : ℕ) → ℕ → List Lookup
+place_turn a year place = job_turn a year (place / 4096 + 1) (place % 4096)
+
+-- The turns from n on may be those of another loop.
+each_add : (f g : ℕ → List Lookup) (n k : ℕ) → ((i : ℕ) → i < k → f (n + i) ≡ g i) → each f (n + k) ≡ each f n ++ each g k
+unfolding each
+each_add f g n zero h = rw (add-zero n, append-nil (each f n))
+each_add f g n (suc k) h =
+    let earlier = each_add f g n k (λ i l. h i (le_step l)) in
+    rw (add-suc n k, each_suc f (n + k), earlier, h k (le_refl (suc k)), append_assoc (each f n) (each g k) (g k))
+
+-- A year's places, month by month.
+place_in_month : (a : List ℕ) (year m n : ℕ) → n < 4096 → place_turn a year (m * 4096 + n) ≡ job_turn a year (suc m) n
+place_in_month a year m n h =
+    let month : (m * 4096 + n) / 4096 + 1 ≡ suc m = omega arith in
+    let number : (m * 4096 + n) % 4096 ≡ n = omega arith in
+    rw (month, number)
+
+month_places : (a : List ℕ) (year m : ℕ) → each (month_turn a year) m ≡ each (place_turn a year) (m * 4096)
+unfolding each
+month_places a year zero = refl
+month_places a year (suc m) =
+    let places : suc m * 4096 ≡ m * 4096 + 4096 = omega arith in
+    rw (places, each_add (place_turn a year) (job_turn a year (suc m)) (m * 4096) 4096 (λ n h. place_in_month a year m n h), ← (month_each a year (suc m)), ← (month_places a year m))
+
+pub year_places : (a : List ℕ) (year : ℕ) → year_lookups a year all_numbers ≡ each (place_turn a year) 49152
+year_places a year = year_each a year ∙ month_places a year 12

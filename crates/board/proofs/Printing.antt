@@ -4,6 +4,7 @@ use mathlib.Core.Path.{◌≡◌, refl, ap, ◌∙◌}
 use mathlib.Core.Bool.{true, false}
 use mathlib.Core.List.{List, [], ◌∷◌}
 use mathlib.Core.Option.{none, some}
+use native.Mathlib.Omega.{arith}
 use borrow.Author.Tests.{le-leb, lt-leb}
 use lib.ListN.{length}
 use Rattle.stores.specs.Written.{Written}
@@ -11,11 +12,11 @@ use Rattle.stores.proofs.Written.{written_at_front}
 use Rattle.replies.specs.declared.Answer.{Answer}
 use Rattle.replies.specs.declared.Refusal.{Refusal}
 use Rattle.replies.specs.declared.Refusal.TheVariants.{ShortList, BadYear}
-use Rattle.replies.specs.declared.Reply.TheVariants.{Value, Refused as RefusedReply}
+use Rattle.std.specs.Prelude.{Ok, Err}
+use Rattle.replies.specs.declared.Reply.TheVariants.{Value}
 use Rattle.replies.specs.Replies.{Said, done, refused, refuse, said_by, unless}
 use Rattle.replies.specs.Writing.{Writing, nothing, behind_tests}
 use Rattle.replies.specs.Answered.{Wrote}
-use Rattle.board.specs.declared.count.Counted.TheVariants.{Bytes, Refused}
 use Rattle.board.specs.Jobs.{valid_year, year_tests}
 use Rattle.board.specs.Print.{Lookup, year_lookups, lines_in, refused_in, fitted, behind_lookups, print_of, print_over, all_numbers, print_year}
 use Rattle.board.specs.Passes.{bytes_of, CountedBy}
@@ -56,28 +57,29 @@ printed_nothing : (w : Writing) (said : Said) (answer : Answer) (before : List �
 printed_nothing w said answer before e r s = rw e (record { reply = r; stores = s; left = refl })
 
 module _ (a : List ℕ) (year : ℕ) (before : List ℕ) (answer : Answer) where
-  pub printed_bad_year : valid_year year ≡ false → (answer.reply ≡ RefusedReply BadYear) × (answer.stores ≡ 0)
+  pub printed_bad_year : valid_year year ≡ false → (answer.reply ≡ Err BadYear) × (answer.stores ≡ 0)
       → Wrote (print_year a year (length before)) answer before before
   printed_bad_year y w =
       printed_nothing _ _ answer before (print_bad_year a year (length before) y) (ap said_by w.0) w.1
 
-  pub printed_refused : (r : Refusal) → valid_year year ≡ true → CountedBy (Refused r) (year_lookups a year all_numbers)
-      → (answer.reply ≡ RefusedReply r) × (answer.stores ≡ 0) → Wrote (print_year a year (length before)) answer before before
+  pub printed_refused : (r : Refusal) → valid_year year ≡ true → CountedBy (Err r) (year_lookups a year all_numbers)
+      → (answer.reply ≡ Err r) × (answer.stores ≡ 0) → Wrote (print_year a year (length before)) answer before before
   printed_refused r y k w =
       printed_nothing _ _ answer before (print_refused a year (length before) _ y k) (ap said_by w.0) w.1
 
-  pub printed_short : (n : ℕ) → valid_year year ≡ true → CountedBy (Bytes n) (year_lookups a year all_numbers) → length before < n
-      → (answer.reply ≡ RefusedReply ShortList) × (answer.stores ≡ 0) → Wrote (print_year a year (length before)) answer before before
+  pub printed_short : (n : ℕ) → valid_year year ≡ true → CountedBy (Ok n) (year_lookups a year all_numbers) → length before < n
+      → (answer.reply ≡ Err ShortList) × (answer.stores ≡ 0) → Wrote (print_year a year (length before)) answer before before
   printed_short n y k h w =
       printed_nothing _ _ answer before (print_short a year (length before) y k.0 (rw k.1 at h)) (ap said_by w.0) w.1
 
-  pub printed_done : (n m : ℕ) (after : List ℕ) → valid_year year ≡ true → CountedBy (Bytes n) (year_lookups a year all_numbers) → n ≤ length before
+  pub printed_done : (n m : ℕ) (after : List ℕ) → valid_year year ≡ true → CountedBy (Ok n) (year_lookups a year all_numbers) → n ≤ length before
       → Written (lines_in (year_lookups a year all_numbers)) 0 before m after
-      → (answer.reply ≡ Value n) × (answer.stores ≡ 0) → Wrote (print_year a year (length before)) answer before after
+      → (answer.reply ≡ Ok (Value m)) × (answer.stores ≡ 0) → Wrote (print_year a year (length before)) answer before after
   printed_done n m after y k h w v =
+      let bytes : m ≡ bytes_of (year_lookups a year all_numbers) = omega (arith, w.behind) in
       rw (print_fits a year (length before) y k.0 (rw k.1 at h))
       (record {
-        reply = ap said_by v.0 ∙ ap (λ (x : ℕ). done (x ∷ [])) k.1;
+        reply = ap said_by v.0 ∙ ap (λ (x : ℕ). done (x ∷ [])) bytes;
         stores = v.1;
         left = written_at_front (lines_in (year_lookups a year all_numbers)) before m after w;
       })

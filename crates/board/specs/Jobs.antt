@@ -1,5 +1,5 @@
 -- Document 02, wish 2: a job, its key, and the calls that set, read and remove one.
-use Rattle.std.specs.Prelude.{ℕ, ◌+◌, ◌*◌, ◌≡◌, Bool, ◌&&◌, List, leb}
+use Rattle.std.specs.Prelude.{ℕ, ◌+◌, ◌*◌, Bool, ◌&&◌, List, leb}
 use Rattle.std.proofs.Math.Option.{Option, none, some}
 use Rattle.stores.specs.Plan.{Outcome}
 use Rattle.replies.specs.declared.Refusal.{Refusal}
@@ -8,8 +8,6 @@ use Rattle.replies.specs.Replies.{Said, refuse, unless}
 use Rattle.index_rules.specs.declared.Call.{Call}
 use Rattle.index_rules.specs.declared.Call.TheVariants.{Get, Put, Remove}
 use Rattle.index_rules.specs.Step.{outcome_of}
-use Rattle.board.specs.declared.job.Keyed.{Keyed}
-use Rattle.board.specs.declared.job.Keyed.TheVariants.{Key, Refused}
 
 -- ---- A job
 
@@ -59,8 +57,3 @@ read_job a year month number = on_job a year month number (λ key. Get key)
 -- Removes a job.
 abbrev pub remove_job : List ℕ → (year month number allowance : ℕ) → Outcome Said
 remove_job a year month number allowance = on_job a year month number (λ key. Remove key allowance)
-
--- What the code's test of a job says: the tests have passed, and this is the key; or they give this refusal.
-abbrev pub KeyedBy : Keyed → (year month number : ℕ) → Type 0
-KeyedBy (Key key) year month number = (job_tests year month number ≡ none) × (key ≡ job_key year month number)
-KeyedBy (Refused r) year month number = job_tests year month number ≡ some r

@@ -4,6 +4,7 @@
 #![tactic(auto)]
 
 mod count;
+mod id;
 mod job;
 mod line;
 mod month;
@@ -14,8 +15,8 @@ ghost use Rattle.replies.specs.Answered.{Answered, Wrote};
 ghost use Rattle.board.specs.Jobs.{set_job, read_job, remove_job};
 ghost use Rattle.board.specs.Print.{print_year};
 
-use count::{Counted, count_year};
-use job::{Keyed, key_of, valid_year};
+use count::count_year;
+use job::{key_of, valid_year};
 use replies::{Answer, Refusal, Reply, without_store};
 use write::write_year;
 
@@ -31,8 +32,8 @@ pub fn set(
     ensures { Answered (set_job words.old year month number pages allowance) result words.new }
 {
     match key_of(year, month, number) {
-        Keyed::Key(key) => index::put(words, key, pages, allowance),
-        Keyed::Refused(refusal) => without_store(Reply::Refused(refusal)),
+        Ok(key) => index::put(words, key, pages, allowance),
+        Err(refusal) => without_store(Err(refusal)),
     }
 }
 
@@ -41,8 +42,8 @@ pub fn read(words: &[u64], year: u64, month: u64, number: u64) -> Answer
     ensures { Answered (read_job words.now year month number) result words.now }
 {
     match key_of(year, month, number) {
-        Keyed::Key(key) => index::get(words, key),
-        Keyed::Refused(refusal) => without_store(Reply::Refused(refusal)),
+        Ok(key) => index::get(words, key),
+        Err(refusal) => without_store(Err(refusal)),
     }
 }
 
@@ -51,8 +52,8 @@ pub fn remove(words: &mut [u64], year: u64, month: u64, number: u64, allowance: 
     ensures { Answered (remove_job words.old year month number allowance) result words.new }
 {
     match key_of(year, month, number) {
-        Keyed::Key(key) => index::remove(words, key, allowance),
-        Keyed::Refused(refusal) => without_store(Reply::Refused(refusal)),
+        Ok(key) => index::remove(words, key, allowance),
+        Err(refusal) => without_store(Err(refusal)),
     }
 }
 
@@ -62,15 +63,15 @@ pub fn print(words: &[u64], year: u64, buffer: &mut [u8]) -> Answer
     ensures { Wrote (print_year words.now year (length buffer.old)) result buffer.old buffer.new }
 {
     if !valid_year(year) {
-        return without_store(Reply::Refused(Refusal::BadYear));
+        return without_store(Err(Refusal::BadYear));
     }
     let bytes = match count_year(words, year) {
-        Counted::Bytes(bytes) => bytes,
-        Counted::Refused(refusal) => return without_store(Reply::Refused(refusal)),
+        Ok(bytes) => bytes,
+        Err(refusal) => return without_store(Err(refusal)),
     };
     if buffer.len() < bytes {
-        return without_store(Reply::Refused(Refusal::ShortList));
+        return without_store(Err(Refusal::ShortList));
     }
-    write_year(words, year, buffer);
-    without_store(Reply::Value(bytes as u64))
+    let written = write_year(words, year, buffer);
+    without_store(Ok(Reply::Value(written as u64)))
 }

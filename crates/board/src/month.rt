@@ -1,6 +1,6 @@
-// A month of a year, with its name.
+// The names of the months.
 ghost use Rattle.std.specs.Prelude.{◌≡◌, ◌≤◌};
-ghost use Rattle.board.specs.Passes.{MonthRead};
+ghost use Rattle.board.specs.Print.{month_name};
 
 // The names of the twelve months.
 const MONTHS: [[u8; 3]; 12] = [
@@ -8,23 +8,10 @@ const MONTHS: [[u8; 3]; 12] = [
     *b"Nov", *b"Dec",
 ];
 
-// A month, 1 to 12, of a year. The name is looked up once for all jobs of the month.
-#[derive(Clone, Copy)]
-pub struct Month {
-    pub year: u64,
-    pub month: u64,
-    pub name: [u8; 3],
-}
-
-// The month with its name.
-pub(crate) fn month_of(year: u64, month: u64) -> Month
-    requires { (year ≤ 9999) × (1 ≤ month) × (month ≤ 12) }
-    ensures { (result.year ≡ year) × (result.month ≡ month) × MonthRead result }
+// The name of a month, 1 to 12.
+pub(crate) fn month_name(month: u64) -> [u8; 3]
+    requires { (1 ≤ month) × (month ≤ 12) }
+    ensures { result ≡ month_name month }
 {
-    let m = (month - 1) as usize;
-    Month {
-        year,
-        month,
-        name: MONTHS[m],
-    }
+    MONTHS[(month - 1) as usize]
 }

@@ -1,5 +1,6 @@
 // The arrays of the test: that of the index, that of the model, a saved one, and the list array of the last
-// list; how many words of them are lent to a call; and the counts.
+// list; how many words of them are lent to a call; and the counts. The words behind those lent are compared
+// too, so an array is no vector of just the words lent.
 ghost use Rattle.std.specs.Prelude.{◌≤◌};
 
 use crate::tally::Tally;
@@ -49,6 +50,11 @@ impl Arrays {
     // The index's and the model's array as saved.
     pub fn restore(&mut self) {
         self.index.copy_from_slice(&self.saved);
+        self.model.copy_from_slice(&self.saved);
+    }
+
+    // The model's array as saved.
+    pub fn take_saved(&mut self) {
         self.model.copy_from_slice(&self.saved);
     }
 

@@ -1,6 +1,6 @@
 // The model's calls as the index's, and the index's answers as the model's. They are functions and no `From` or
 // `TryFrom`, since both types of each are other crates', and the model knows no index.
-use replies::{Answer, Following, refusal_number};
+use replies::Answer;
 use test_array::outcomes::{Outcome, Refusal, Reply, UnknownNumber};
 use test_model::{Call, Change};
 
@@ -36,26 +36,15 @@ pub(crate) fn request_of(call: Call) -> index_rules::Call {
     }
 }
 
-// The block that follows another.
-fn next_in(following: Following) -> Option<u64> {
-    match following {
-        Following::Next(index) => Some(index),
-        Following::Last => None,
-    }
-}
-
 // What the index answered, if a call of the index may be refused so. A refusal goes by its number, which both
 // have from the documents.
 pub(crate) fn said_by(answer: Answer) -> Result<Outcome, UnknownNumber> {
     let reply = match answer.reply {
-        replies::Reply::Done => Ok(Reply::Done),
-        replies::Reply::Value(value) => Ok(Reply::Value(value)),
-        replies::Reply::Listed(records, following) => Ok(Reply::Listed {
-            records,
-            next: next_in(following),
-        }),
-        replies::Reply::Absent => Ok(Reply::Absent),
-        replies::Reply::Refused(refusal) => Err(Refusal::try_from(refusal_number(refusal))?),
+        Ok(replies::Reply::Done) => Ok(Reply::Done),
+        Ok(replies::Reply::Value(value)) => Ok(Reply::Value(value)),
+        Ok(replies::Reply::Listed(records, next)) => Ok(Reply::Listed { records, next }),
+        Ok(replies::Reply::Absent) => Ok(Reply::Absent),
+        Err(refusal) => Err(Refusal::try_from(u32::from(refusal))?),
     };
     Ok(Outcome {
         reply,

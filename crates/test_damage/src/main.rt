@@ -39,7 +39,7 @@ const LEFT_STEPS: usize = 158;
 // Words behind those that the index takes.
 const WORDS_BEHIND: usize = 8;
 
-// The folded key of a key of a saved run: one of 48, by the run's number running, of three buckets, of
+// The folded key of a key of a saved run, drawn in another way than a key of `test_random`: one of 48, by the run's number running, of three buckets, of
 // one bucket with two routes, or half of one route and half spread.
 fn folded_of(run: u64, roll: u64) -> u64 {
     let number = roll % 48;

@@ -5,23 +5,15 @@
 
 mod reading;
 
-use intake::read_full;
-use reading::{AT_LETTER, COLUMNS, DUE, Place, Row, take_in_line};
-use std::io;
-use std::io::{BufWriter, Read, Write};
+use reading::{Keys, Row};
+use std::{array, io};
 use test_array::array::words_before;
-use test_array::outcomes::{DONE, Outcome, TOO_SHORT};
-use test_array::words::{CELLS, Cells, set_word, word_at};
-use test_compare::arrays::{ARRAYS, Arrays, INDEX, LISTED, MODEL, SAVED, TALLY};
-use test_compare::compare::{compare, count_call, make};
-use test_compare::report::write_table;
-use test_compare::tally::{begin_case, expect};
-use test_model::Call;
-
-// One byte more than the rows have at most.
-const TEXT_BYTES: usize = 16385;
-
-type Text = [u8; TEXT_BYTES];
+use test_array::outcomes::{Outcome, Refusal, Reply};
+use test_array::words::{WORDS, set_word, word_at};
+use test_compare::arrays::Arrays;
+use test_compare::compare::make;
+use test_compare::family::run_family;
+use test_model::{Call, Change};
 
 // The allowance of the states, and the words for D = 2, S = 4.
 const ALLOWANCE: u32 = 10000;
@@ -31,8 +23,6 @@ const WORDS_4: usize = 520;
 // The words for D = 12, S = 4,096.
 const WORDS_K: usize = 532480;
 
-type Largest = [u64; WORDS_K];
-
 // Word 0 with G = D = 2, S = 4, and after a format with D = 12, S = 4,096.
 const FIRST_WORD_DEEP: u64 = 0x5041474600040202;
 
@@ -41,32 +31,43 @@ const FIRST_WORD_K: u64 = 0x5041474610000C00;
 // The keys that fill a window.
 const WINDOW: usize = 16;
 
-// The most records of a block.
-const BLOCK_RECORDS: usize = 64;
+// The number of a reply in the rows that is absent.
+const ABSENT: u64 = 255;
 
 // Begins a case: both arrays empty, and this many words of them lent.
 fn begin(arrays: &mut Arrays, length: usize) {
-    arrays[INDEX] = [0u64; CELLS];
-    arrays[MODEL] = [0u64; CELLS];
-    begin_case(arrays, length);
+    arrays.index = [0; WORDS];
+    arrays.model = [0; WORDS];
+    arrays.begin_case(length);
 }
 
-// Compares what was seen with the document's reply and number of stores.
-fn expect_seen(arrays: &mut Arrays, seen: Outcome, reply: u32, stores: u32) {
-    expect(arrays, seen.reply == reply);
-    expect(arrays, seen.stores == stores);
+// The number of a reply in the rows: 0 for done, or the refusal's.
+fn number_of(reply: Result<Reply, Refusal>) -> u64 {
+    match reply {
+        Ok(Reply::Absent) => ABSENT,
+        Ok(_) => 0,
+        Err(refusal) => refusal as u64,
+    }
 }
 
 // A call with the document's reply and number of stores.
-fn expect_call(arrays: &mut Arrays, call: Call, reply: u32, stores: u32) {
-    let seen = compare(arrays, call);
-    expect_seen(arrays, seen, reply, stores);
+fn expect_call(arrays: &mut Arrays, call: Call, reply: u64, stores: u64) {
+    let seen = arrays.compare(call);
+    arrays.expect(number_of(seen.reply) == reply);
+    arrays.expect(u64::from(seen.stores) == stores);
 }
 
 // Compares a word of the index's array with the document's.
 fn expect_word(arrays: &mut Arrays, at: usize, word: u64) {
-    let found = word_at(&arrays[INDEX], at);
-    expect(arrays, found == word);
+    let found = word_at(&arrays.index, at);
+    arrays.expect(found == word);
+}
+
+// The sixteen keys.
+fn all_of(keys: Keys) -> [u64; WINDOW] {
+    array::from_fn(|number| keys
+        .first
+        .wrapping_add(keys.step.wrapping_mul(number as u64)))
 }
 
 // A key's value in a fill: ten times the key, as in state b.
@@ -74,200 +75,144 @@ fn value_for(key: u64) -> u64 {
     key % 65536 * 10
 }
 
-// A case with a format of D = 2, and puts of sixteen keys: `first`, and on by `step`.
-fn fill(arrays: &mut Arrays, segments: u32, first: u64, step: u64) {
+// A case with a format of D = 2, and puts of sixteen keys.
+fn fill(arrays: &mut Arrays, segments: u32, keys: Keys) {
     begin(arrays, words_before(2, segments));
-    compare(arrays, Call::Format(2, segments as u64, ALLOWANCE));
-    let mut key = first;
-    for _ in 0..WINDOW {
-        compare(arrays, Call::Put(key, value_for(key), ALLOWANCE));
-        key = key.wrapping_add(step);
+    let format = Change::Format {
+        max_depth: 2,
+        segments: u64::from(segments),
+    };
+    arrays.compare(format.allowed(ALLOWANCE));
+    for key in all_of(keys) {
+        let value = value_for(key);
+        arrays.compare(Change::Put { key, value }.allowed(ALLOWANCE));
     }
 }
 
-// Whether the keys of a fill lie in sixteen slots on from `slot` of segment 0, slot 0 following 63.
-fn is_filled(words: &Cells, slot: usize, first: u64, step: u64) -> bool {
-    let mut key = first;
-    for number in 0..WINDOW {
-        let at = 8 + 2 * ((slot % 64 + number) % 64);
-        if word_at(words, at) != key {
-            return false;
-        }
-        key = key.wrapping_add(step);
-    }
-    true
-}
-
-// Compares where the keys of a fill lie.
-fn expect_filled(arrays: &mut Arrays, slot: usize, first: u64, step: u64) {
-    let filled = is_filled(&arrays[INDEX], slot, first, step);
-    expect(arrays, filled);
+// Compares where the keys of a fill lie: in sixteen slots on from `slot` of segment 0, slot 0 following 63.
+fn expect_filled(arrays: &mut Arrays, slot: usize, keys: Keys) {
+    let words = &arrays.index;
+    let is_filled = (slot % 64..)
+        .zip(all_of(keys))
+        .all(|(at, key)| word_at(words, 8 + 2 * (at % 64)) == key);
+    arrays.expect(is_filled);
 }
 
 // Stores a word to both arrays.
 fn set_both(arrays: &mut Arrays, at: usize, word: u64) {
-    set_word(&mut arrays[INDEX], at, word);
-    set_word(&mut arrays[MODEL], at, word);
+    set_word(&mut arrays.index, at, word);
+    set_word(&mut arrays.model, at, word);
 }
 
-// The directory of depth 2 with four segments.
-fn deepen(words: &mut Cells) {
-    set_word(words, 0, FIRST_WORD_DEEP);
-    set_word(words, 4, 0x200000000);
-    set_word(words, 5, 0x200000001);
-    set_word(words, 6, 0x200000002);
-    set_word(words, 7, 0x200000003);
-}
-
-// Begins a case with that directory.
+// Begins a case with the directory of depth 2 and four segments.
 fn begin_deep(arrays: &mut Arrays) {
     begin(arrays, WORDS_4);
-    deepen(&mut arrays[INDEX]);
-    arrays[MODEL] = arrays[INDEX];
+    set_word(&mut arrays.index, 0, FIRST_WORD_DEEP);
+    for segment in 0..4 {
+        set_word(&mut arrays.index, 4 + segment, 0x200000000 + segment as u64);
+    }
+    arrays.copy_to_model();
 }
 
-// A list of one block that is done, with its number of records and the next index.
-fn list_block(arrays: &mut Arrays, index: u64, room: usize, records: u64, next: u64) {
-    let seen = compare(arrays, Call::ListBlock(index, room));
-    expect(arrays, seen.reply == DONE && seen.stores == 0);
-    expect(arrays, seen.value == records && seen.next == next);
+// A list of one block that is done, with its number of records and the next index, 0 behind the last.
+fn expect_block(arrays: &mut Arrays, call: Call, records: u64, next: u64) {
+    let seen = arrays.compare(call);
+    let due = Reply::Listed {
+        records,
+        next: if next == 0 { None } else { Some(next) },
+    };
+    arrays.expect(seen.reply == Ok(due) && seen.stores == 0);
 }
 
 // Compares a record of the list array.
 fn expect_record(arrays: &mut Arrays, number: usize, key: u64, value: u64) {
-    let at = 2 * (number % BLOCK_RECORDS);
-    let is_right = word_at(&arrays[LISTED], at) == key && word_at(&arrays[LISTED], at + 1) == value;
-    expect(arrays, is_right);
-}
-
-// A number of 32 bits, as an allowance or a reply.
-fn half_of(number: u64) -> u32 {
-    (number % 4294967296) as u32
-}
-
-// The call of a letter, with its numbers. Any other capital letter is a list, which no row asks for: the table would
-// count it.
-fn call_of(letter: u8, first: u64, second: u64, third: u64) -> Call {
-    match letter {
-        b'F' => Call::Format(first, second, half_of(third)),
-        b'G' => Call::Get(first),
-        b'P' => Call::Put(first, second, half_of(third)),
-        b'R' => Call::Remove(first, half_of(second)),
-        b'J' => Call::Merge(first, half_of(second)),
-        b'M' => Call::Mend(half_of(first)),
-        b'B' => Call::ListBlock(first, second as usize),
-        _ => Call::List(0),
-    }
-}
-
-// Begins a case, changes the arrays, or compares what stands in them. A letter that is for nothing is a
-// difference; 0 is that of a comment.
-fn take_other(arrays: &mut Arrays, letter: u8, first: u64, second: u64, third: u64) {
-    match letter {
-        b'c' => begin(arrays, first as usize),
-        b'f' => fill(arrays, half_of(first), second, third),
-        b'd' => begin_deep(arrays),
-        b'i' => set_both(arrays, first as usize, second),
-        b's' => arrays[SAVED] = arrays[INDEX],
-        b'u' => arrays[MODEL] = arrays[SAVED],
-        b'w' => expect_word(arrays, first as usize, second),
-        b'r' => expect_record(arrays, first as usize, second, third),
-        b't' => expect_filled(arrays, first as usize, second, third),
-        _ => expect(arrays, letter == 0),
-    }
+    let found = arrays.listed.chunks_exact(2).nth(number);
+    let is_right = found.is_some_and(|pair| pair == [key, value].as_slice());
+    arrays.expect(is_right);
 }
 
 // Does what a row asks for.
-fn take_row(arrays: &mut Arrays, row: &Row) {
-    let letter = (row[0] % 256) as u8;
-    let first = row[1];
-    let second = row[2];
-    let third = row[3];
-    let due = row[DUE];
-    let next_due = row[DUE + 1];
-    match letter {
-        b'A'..=b'Z' => {
-            let call = call_of(letter, first, second, third);
-            expect_call(arrays, call, half_of(due), half_of(next_due));
+fn take_row(arrays: &mut Arrays, row: Row) {
+    match row {
+        Row::Nothing => {}
+        Row::Case { words } => begin(arrays, words),
+        Row::Filled { segments, keys } => fill(arrays, segments, keys),
+        Row::Deep => begin_deep(arrays),
+        Row::Due {
+            call,
+            reply,
+            stores,
+        } => expect_call(arrays, call, reply, stores),
+        Row::Block {
+            call,
+            records,
+            next,
+        } => expect_block(arrays, call, records, next),
+        Row::Compared { call } => {
+            arrays.compare(call);
         }
-        b'b' => list_block(arrays, first, second as usize, due, next_due),
-        b'p' => {
-            compare(arrays, call_of(b'P', first, second, third));
-        }
-        _ => take_other(arrays, letter, first, second, third),
+        Row::Store { at, word } => set_both(arrays, at, word),
+        Row::Save => arrays.save(),
+        Row::TakeSaved => arrays.take_saved(),
+        Row::Word { at, word } => expect_word(arrays, at, word),
+        Row::Record { number, key, value } => expect_record(arrays, number, key, value),
+        Row::Slots { slot, keys } => expect_filled(arrays, slot, keys),
     }
 }
 
-// Takes a byte of the text: a line feed ends a row.
-fn take_byte(arrays: &mut Arrays, row: &mut Row, place: Place, byte: u8) -> Place {
-    if byte == b'\n' {
-        take_row(arrays, row);
-        *row = [0u64; COLUMNS];
-        return AT_LETTER;
-    }
-    take_in_line(row, place, byte)
-}
-
-// Goes through all rows of the text.
-fn take_rows(arrays: &mut Arrays, text: &Text) {
-    let mut row = [0u64; COLUMNS];
-    let mut place = AT_LETTER;
-    for at in 0..TEXT_BYTES {
-        place = take_byte(arrays, &mut row, place, text[at]);
+// Goes through all rows of the text. One that cannot be read is a difference.
+fn take_rows(arrays: &mut Arrays, text: &str) {
+    for line in text.lines() {
+        match line.parse() {
+            Ok(row) => take_row(arrays, row),
+            Err(_) => arrays.expect(false),
+        }
     }
 }
 
 // Whether word 0 is this one, and every other word 0.
-fn is_formatted(words: &Largest, first: u64) -> bool {
-    for i in 0..WORDS_K {
-        let expected = if i == 0 { first } else { 0 };
-        if words[i] != expected {
-            return false;
-        }
-    }
-    true
+fn is_formatted(words: &[u64], first: u64) -> bool {
+    words.split_first().is_some_and(|(word, others)| *word == first
+        && others.iter().all(|other| *other == 0))
 }
 
-// A format of the largest shape on this many words, and the word 0 that it leaves.
-fn format_largest(
-    arrays: &mut Arrays,
-    words: &mut Largest,
-    length: usize,
-    reply: u32,
-    stores: u32,
-    first: u64,
-) {
-    begin_case(arrays, 0);
-    let call = Call::Format(12, 4096, ALLOWANCE);
-    let seen = make(words, length, call);
-    count_call(arrays, call, seen);
-    expect_seen(arrays, seen, reply, stores);
-    expect(arrays, is_formatted(words, first));
+// A format of the largest shape on these words, with the document's outcome, and the word 0 that it leaves.
+fn format_largest(arrays: &mut Arrays, words: &mut [u64], due: Outcome, first: u64) {
+    arrays.begin_case(0);
+    let format = Change::Format {
+        max_depth: 12,
+        segments: 4096,
+    };
+    let call = format.allowed(ALLOWANCE);
+    let answer = make(words, call);
+    arrays.judge(call, answer, due, is_formatted(words, first));
 }
 
-// k: the largest shape. Two such arrays pass the stack, so this state goes without the model: a scan
-// compares the words.
-fn state_k(arrays: &mut Arrays) {
+// k: the largest shape, on a word less and on all. Two such arrays pass the stack, so this state goes without the
+// model: the document's outcome stands in its place, and a scan compares the words.
+fn state_k(arrays: &mut Arrays, words: &mut [u64; WORDS_K]) {
+    let too_short = Outcome {
+        reply: Err(Refusal::TooShort),
+        stores: 0,
+    };
+    format_largest(arrays, &mut words[..WORDS_K - 1], too_short, 0);
+    let done = Outcome {
+        reply: Ok(Reply::Done),
+        stores: 67,
+    };
+    format_largest(arrays, words, done, FIRST_WORD_K);
+}
+
+// The states of the text, and k.
+fn test_known(arrays: &mut Arrays, text: &str) {
+    take_rows(arrays, text);
     let mut words = [0u64; WORDS_K];
-    format_largest(arrays, &mut words, WORDS_K - 1, TOO_SHORT, 0, 0);
-    format_largest(arrays, &mut words, WORDS_K, DONE, 67, FIRST_WORD_K);
+    state_k(arrays, &mut words);
 }
 
-// The states of the text, which must have ended within the array, and k.
-fn test_known<R: Read>(arrays: &mut Arrays, input: &mut R) -> io::Result<()> {
-    let mut text = [0u8; TEXT_BYTES];
-    let size = read_full(input, &mut text)?;
-    expect(arrays, size < TEXT_BYTES);
-    take_rows(arrays, &text);
-    state_k(arrays);
-    Ok(())
-}
-
-// The family, then its table.
 fn main(rt: HostRuntime) -> io::Result<()> {
-    let mut arrays = [[0u64; CELLS]; ARRAYS];
-    test_known(&mut arrays, &mut rt.reader())?;
-    let mut out = BufWriter::new(rt.alloc(), io::writer(&rt))?;
-    write_table(&mut out, &arrays[TALLY], b"1 known states")?;
-    out.flush()
+    let text = io::read_to_string(rt.alloc(), rt.reader())?;
+    run_family(&rt, "1 known states", |arrays: &mut Arrays| {
+        test_known(arrays, text.as_str());
+    })
 }

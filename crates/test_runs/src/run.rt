@@ -26,8 +26,8 @@ pub(crate) struct Run<'a> {
 // Whether a lookup in the index says what the table says of a key.
 fn is_as_told(words: &[u64], entry: Entry) -> bool {
     match index::get(words, entry.key).reply {
-        Said::Value(value) => entry.value == Some(value),
-        Said::Absent => entry.value.is_none(),
+        Ok(Said::Value(value)) => entry.value == Some(value),
+        Ok(Said::Absent) => entry.value.is_none(),
         _ => false,
     }
 }

@@ -33,6 +33,16 @@ impl<'a> Output<'a> {
         self.written += 1;
     }
 
+    // Writes a text.
+    pub fn text(&mut self, text: &[u8])
+        requires { HasRoom text.now self.old }
+        ensures { Appended text.now self.old self.new }
+    {
+        let end = self.written + text.len();
+        self.bytes[self.written..end].copy_from_slice(text);
+        self.written = end;
+    }
+
     // Writes n, which is below 100, in two digits.
     fn two_digits(&mut self, n: u64)
         requires low { n < 100 }

@@ -2,8 +2,8 @@
 use Rattle.board.proofs.Jobs.{job_called, job_refused}
 use Rattle.board.proofs.read.Goals as goal
 
-pub returns-in-Key : goal.returns-in-Key
-returns-in-Key c = job_called _ _ _ _ _ _ _ _ _ c.key_of.ensures c.in-Key.is c.get.ensures
+pub returns-in-Ok : goal.returns-in-Ok
+returns-in-Ok c = job_called _ _ _ _ _ _ _ _ c.in-Ok.ensures c.get.ensures
 
-pub returns-in-Refused : goal.returns-in-Refused
-returns-in-Refused c = job_refused _ _ _ _ _ _ _ _ c.key_of.ensures c.in-Refused.is c.without_store.ensures
+pub returns-in-Err : goal.returns-in-Err
+returns-in-Err c = job_refused _ _ _ _ _ _ _ c.in-Err.ensures c.without_store.ensures

@@ -1,37 +1,23 @@
 -- `board::line::write_line` meets its contract.
-use native.Mathlib.Omega.{arith}
-use Rattle.board.proofs.Lines.{length_line_of, line_written}
+use Rattle.board.proofs.Lines.{room_name, room_number, room_pages, room_end, line_written}
 use Rattle.board.proofs.line.write_line.Goals as goal
 
-pub write_name-next-requires : goal.write_name-next-requires
-write_name-next-requires c =
-    omega (arith, length_line_of c.args.name c.args.number c.args.pages, c.requires)
+pub text-requires : goal.text-requires
+text-requires c = rw c.month_name.ensures (room_name c.args.id.month c.args.id.number c.args.pages c.args.output.now c.requires)
 
-pub write_field-next-requires : goal.write_field-next-requires
-write_field-next-requires c =
-    omega (arith, length_line_of c.args.name c.args.number c.args.pages, c.requires, c.write_name-next.ensures.behind)
+pub field-requires : goal.field-requires
+field-requires c =
+    room_number c.args.id.month c.args.id.number c.args.pages _ c.requires _ (rw c.month_name.ensures at c.text.ensures)
 
-pub write_field-next-requires-2 : goal.write_field-next-requires-2
-write_field-next-requires-2 c =
-    omega (
-      arith,
-      length_line_of c.args.name c.args.number c.args.pages,
-      c.requires,
-      c.write_name-next.ensures.behind,
-      c.write_field-next.ensures.behind,
-    )
+pub field-requires-2 : goal.field-requires-2
+field-requires-2 c =
+    room_pages c.args.id.month c.args.id.number c.args.pages _ c.requires _ (rw c.month_name.ensures at c.text.ensures) _ c.field.ensures
 
-pub write_byte-requires : goal.write_byte-requires
-write_byte-requires c =
-    omega (
-      arith,
-      length_line_of c.args.name c.args.number c.args.pages,
-      c.requires,
-      c.write_name-next.ensures.behind,
-      c.write_field-next.ensures.behind,
-      c.write_field-next-2.ensures.behind,
-    )
+pub byte-requires : goal.byte-requires
+byte-requires c =
+    room_end c.args.id.month c.args.id.number c.args.pages _ c.requires _ (rw c.month_name.ensures at c.text.ensures) _ c.field.ensures _ c.field-2.ensures
 
 pub returns : goal.returns
 returns c =
-    line_written _ _ (omega (arith, c.requires)) _ _ _ _ _ _ _ _ _ _ _ c.write_name-next.ensures c.write_field-next.ensures c.write_field-next-2.ensures c.write_byte.ensures
+    line_written c.args.id.month c.args.id.number c.args.pages _ c.requires _ (rw c.month_name.ensures at c.text.ensures) _ c.field.ensures _ c.field-2.ensures _
+    c.byte.ensures

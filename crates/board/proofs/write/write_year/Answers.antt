@@ -1,33 +1,33 @@
--- `board::write::write_year` meets its contract. The invariant: the lines of the months before `month` + 1 are written.
-use mathlib.Core.Path.{◌≡◌, refl}
-use native.Mathlib.Numerals.{add-one}
-use native.Mathlib.Omega.{arith}
-use borrow.Author.Rules.{rules}
-use Rattle.board.proofs.Lookups.{year_each, written_start, written_turn, turn_fits}
+-- `board::write::write_year` meets its contract. The invariant: the lines of the jobs at the places below `place` are written.
+use Rattle.std.proofs.Common.{◌≡◌, length, ap, ◌∙◌, add-one, arith}
+use Rattle.text.specs.Output.{HasRoom}
+use Rattle.board.specs.Print.{year_lookups, all_numbers, lines_in}
+use Rattle.board.proofs.Lookups.{year_places, written_start, written_turn, turn_fits, written_to}
 use Rattle.board.proofs.write.write_year.Goals as goal
 
-pub loop-month-init : goal.loop-month-init
-loop-month-init c = (omega arith, refl, written_start _ _ _)
+pub loop-place-init : goal.loop-place-init
+loop-place-init c = (omega arith, written_start _ _)
 
-pub write_month-next-requires : goal.write_month-next-requires
-write_month-next-requires c =
-    let all = rw (year_each _ _) at c.requires.1 in (
-      c.requires.0,
-      omega arith,
-      omega (arith, c.loop-month-test.true),
-      rw (add-one c.loop-month.month)
-          (turn_fits _ _ 12 _ _ _ _ c.loop-month-test.true c.loop-month.invariant.1 c.loop-month.invariant.2 all),
-    )
+pub write_job-requires : goal.write_job-requires
+write_job-requires c =
+    let room : HasRoom (lines_in (year_lookups c.args.words.now c.args.year all_numbers)) c.new-output.result =
+    omega (arith, c.requires.room, c.new-output.ensures.written, ap length c.new-output.ensures.bytes) in
+    rw (c.at.ensures.0, c.at.ensures.1, c.at.ensures.2)
+    (turn_fits _ _ 49152 _ _ c.loop-place-test.true (rw (year_places _ _) at room) c.loop-place.invariant.1)
 
-pub loop-month-preserved : goal.loop-month-preserved
-loop-month-preserved c =
-    let one = rw (add-one c.loop-month.month) at c.write_month-next.ensures in (
-      omega (arith, c.loop-month-test.true),
-      search rules,
-      rw (add-one c.loop-month.month) (written_turn _ _ _ _ _ _ _ _ (omega arith) c.loop-month.invariant.2 one),
+pub loop-place-preserved : goal.loop-place-preserved
+loop-place-preserved c =
+    let room : HasRoom (lines_in (year_lookups c.args.words.now c.args.year all_numbers)) c.new-output.result =
+    omega (arith, c.requires.room, c.new-output.ensures.written, ap length c.new-output.ensures.bytes) in (
+      omega (arith, c.loop-place-test.true),
+      rw (add-one c.loop-place.place)
+          (written_turn _ _ 49152 _ _ c.loop-place-test.true (rw (year_places _ _) at room) c.loop-place.invariant.1 _
+          (rw (c.at.ensures.0, c.at.ensures.1, c.at.ensures.2) at c.write_job.ensures)),
     )
 
 pub returns : goal.returns
 returns c =
-    let all : c.loop-month.month ≡ 12 = omega (arith, c.loop-month-test.false, c.loop-month.invariant.0) in
-    rw (year_each _ _) (rw all at c.loop-month.invariant.2)
+    let all : c.loop-place.place ≡ 49152 = omega (arith, c.loop-place-test.false, c.loop-place.invariant.0) in
+    let same_buffer = c.loop-place.invariant.1.same_buffer ∙ c.new-output.ensures.same_reference in
+    let text = rw (c.new-output.ensures.written, c.new-output.ensures.bytes, all) at c.loop-place.invariant.1.text in
+    rw (year_places _ _) (written_to _ _ c.loop-place.output _ text (grind arith))
