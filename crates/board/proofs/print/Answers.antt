@@ -24,7 +24,7 @@ pub write_year-written-requires-clause-low : goal.write_year-written-requires-cl
 write_year-written-requires-clause-low c = (year_bounds _ (sym c.valid_year.ensures ∙ c.if-not-valid_year.false)).1
 
 pub write_year-written-requires-clause-room : goal.write_year-written-requires-clause-room
-write_year-written-requires-clause-room c = omega (arith, c.in-Ok.ensures.1, c.if-buffer-bytes.false)
+write_year-written-requires-clause-room c = omega (arith, c.in-Ok.ensures.1)
 
 pub returns : goal.returns
 returns c =
