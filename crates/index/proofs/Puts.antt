@@ -163,8 +163,11 @@ module _ {p : Place} {key allowance : ℕ} {x : Budget} {a b : List ℕ} (m : Sp
   pub answers_cut : x.allowance < x.due → (s : Said) {r : Answer} → AfterStores r s x → Answered (outcome_of a (Put key value allowance)) r b
   unfolding effect step
   answers_cut l s k =
-      rw (plan, changed_then_cut allowance (splitting a key m.new) (put (apply (splitting a key m.new) a) key value) a
-      (omega (arith, l, due_length, m.made.allowance)))
+      rw (
+        plan,
+        changed_then_cut allowance (splitting a key m.new) (put (apply (splitting a key m.new) a) key value) a
+            (omega (arith, l, due_length, m.made.allowance)),
+      )
       (record {
         reply = rw (lt-leb x.due x.allowance l) at k.0;
         stores = k.1 ∙ min-eq_left (le_of_lt l) ∙ m.made.allowance;

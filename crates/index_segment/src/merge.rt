@@ -43,13 +43,7 @@ pub fn some_both_live(left: &[u64], right: &[u64], joined: Block) -> bool
 
 // One slot of the left segment: the right one's record, if it is live there, value, then key. Where
 // neither is live, a key that is not 0 is cleared: it could be live in the joined block.
-fn merge_slot(
-    segment: &mut [u64],
-    slot: usize,
-    sides: Sides,
-    joined: Block,
-    budget: &mut Budget,
-)
+fn merge_slot(segment: &mut [u64], slot: usize, sides: Sides, joined: Block, budget: &mut Budget)
     requires { (length segment.old ≡ 128) × (slot < 64) × (budget.old.due ≤ 2 * due_limit) }
     ensures { Executed (sides_merged joined slot sides) budget.old segment.old budget.new segment.new }
 {

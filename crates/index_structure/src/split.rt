@@ -29,12 +29,7 @@ pub struct Halving {
 
 // Steps 3 and 4: the copy step from the words of the old segment, then the entries of the key's block.
 // The new segment is lent on to be written.
-fn halve(
-    words: &mut [u64],
-    old: [u64; SEGMENT_WORDS],
-    halving: Halving,
-    budget: &mut Budget,
-)
+fn halve(words: &mut [u64], old: [u64; SEGMENT_WORDS], halving: Halving, budget: &mut Budget)
     requires { Halvable halving words.old × (budget.old.due + 128 ≤ due_limit) }
     ensures { Executed (halving_at old halving) budget.old words.old budget.new words.new }
 {
@@ -45,12 +40,7 @@ fn halve(
     let local_depth = place.local_depth;
     let base = segment_base(place.header.max_depth, new_segment);
     let block = Block { local_depth, bits };
-    copy_records(
-        old,
-        &mut words[base..base + SEGMENT_WORDS],
-        block,
-        budget,
-    );
+    copy_records(old, &mut words[base..base + SEGMENT_WORDS], block, budget);
     let start = block_start(directory_index(bits, depth), depth, local_depth);
     let halves = Halves {
         depth,

@@ -31,11 +31,11 @@ returns-else-sides-ne0 c =
     let u = c.args in
     let stays = sym c.is_live_in_half.ensures ∙ c.if-is_live_in_half.false in
     elim c.else-sides-ne0.branch [
-    else-sides-ne0-via-then-sides-ne0+else-not-is_live_in_half w ↦
-      let own = sym (rw (add-zero (2 * shared u.joined)) at w.is_live_in_half-then-sides-ne0.ensures) ∙ w.if-not-is_live_in_half.false in
-      rw (merged_own u.joined.local_depth (shared u.joined) u.slot u.sides.left_key u.sides.right.key u.sides.right.value stays w.if-sides-ne0.true own)
-      (executed_none u.budget.now u.segment.now)
-    | else-sides-ne0-via-else-sides-ne0 w ↦
-      rw (merged_empty u.joined.local_depth (shared u.joined) u.slot u.sides.left_key u.sides.right.key u.sides.right.value stays w.if-sides-ne0.false)
-      (executed_none u.budget.now u.segment.now)
+      | else-sides-ne0-via-then-sides-ne0+else-not-is_live_in_half w ↦
+          let own = sym (rw (add-zero (2 * shared u.joined)) at w.is_live_in_half-then-sides-ne0.ensures) ∙ w.if-not-is_live_in_half.false in
+          rw (merged_own u.joined.local_depth (shared u.joined) u.slot u.sides.left_key u.sides.right.key u.sides.right.value stays w.if-sides-ne0.true own)
+          (executed_none u.budget.now u.segment.now)
+      | else-sides-ne0-via-else-sides-ne0 w ↦
+          rw (merged_empty u.joined.local_depth (shared u.joined) u.slot u.sides.left_key u.sides.right.key u.sides.right.value stays w.if-sides-ne0.false)
+          (executed_none u.budget.now u.segment.now)
     ]
