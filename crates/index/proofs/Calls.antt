@@ -3,11 +3,9 @@ use mathlib.Core.Path.{◌≡◌, refl}
 use mathlib.Core.Bool.{true, false}
 use mathlib.Core.List.{List, [], ◌∷◌}
 use mathlib.Core.Option.{none, some}
-use Prim.Native.Nat.{ℕ, ◌+◌, ◌*◌, ◌≤◌, ◌<◌}
-use native.Mathlib.Omega.{arith}
+use Prim.Native.Nat.{ℕ, ◌≤◌, ◌<◌}
 use borrow.Author.Tests.{le-leb, lt-leb}
 use lib.ListN.{length}
-use Rattle.stores.specs.Store.{store, word}
 use Rattle.stores.specs.declared.Budget.{Budget}
 use Rattle.stores.specs.Executed.{Executed, begun}
 use Rattle.cells.specs.Cells.{value_at}
@@ -15,7 +13,7 @@ use Rattle.replies.specs.declared.Refusal.{Refusal}
 use Rattle.replies.specs.declared.Refusal.TheVariants.{NoStore, Broken, BadShape, TooShort}
 use Rattle.replies.specs.declared.Answer.{Answer}
 use Rattle.index_rules.specs.declared.Call.TheVariants.{Format, Get, Remove, Mend}
-use Rattle.index_rules.specs.Layout.{valid_shape, valid_header, words_for, depth, segments, key_address, value_address}
+use Rattle.index_rules.specs.Layout.{valid_shape, valid_header, words_for, depth, segments}
 use Rattle.index_rules.specs.Scan.{leaders_valid}
 use Rattle.index_rules.specs.Slots.{hit}
 use Rattle.replies.specs.Replies.{done, absent, refused, refuse, unless, tested, replied, changed}

@@ -21,7 +21,6 @@ use Rattle.index_segment.specs.declared.choice.Choice.{Choice}
 use Rattle.index_segment.specs.declared.choice.Choice.TheVariants.{Found, Into, Full}
 use Rattle.index_segment.specs.Answers.{choice_of}
 use Rattle.index_layout.specs.declared.place.Place.{Place}
-use Rattle.index_layout.specs.Blocks.{shared}
 use Rattle.index_layout.specs.Places.{KeyPlace, shared_at}
 use Rattle.index_layout.proofs.Places.{place_bounds, place_shared}
 

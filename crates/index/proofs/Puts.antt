@@ -1,15 +1,15 @@
 -- The cases of a put from what the code read, and a put behind a split.
 use mathlib.Core.Path.{◌≡◌, refl, sym, ap, ◌∙◌}
-use mathlib.Core.List.{List, [], ◌∷◌}
+use mathlib.Core.List.{List}
 use mathlib.Core.Option.{some}
-use Prim.Native.Nat.{ℕ, suc, ◌+◌, ◌*◌, ◌-◌, ◌≤◌, ◌<◌, min}
+use Prim.Native.Nat.{ℕ, suc, ◌+◌, ◌-◌, ◌≤◌, ◌<◌, min}
 use native.Mathlib.Nat.{min-eq_left, le_of_lt, sub-zero, zero-add}
 use native.Mathlib.Omega.{arith}
 use borrow.Author.Tests.{le-leb, lt-leb, leb-true}
 use lib.Dec.{leb}
 use Rattle.std.specs.Prelude.{Ok, Err}
 use lib.ListN.{length, length-append}
-use Rattle.stores.specs.Store.{Store, store, exec, apply}
+use Rattle.stores.specs.Store.{Store, exec, apply}
 use Rattle.stores.specs.Plan.{Plan, ◌then◌, cut}
 use Rattle.stores.specs.declared.Budget.{Budget}
 use Rattle.stores.specs.Executed.{Executed, begun}
@@ -20,7 +20,7 @@ use Rattle.replies.specs.declared.Refusal.{Refusal}
 use Rattle.replies.specs.declared.Refusal.TheVariants.{TooDeep, NoSegment, CutOff}
 use Rattle.replies.specs.declared.Answer.{Answer}
 use Rattle.index_rules.specs.declared.Call.TheVariants.{Put}
-use Rattle.index_rules.specs.Layout.{max_depth, local_depth, value_address}
+use Rattle.index_rules.specs.Layout.{max_depth, local_depth}
 use Rattle.index_rules.specs.Slots.{Choice, found, into, full, free_segment}
 use Rattle.replies.specs.Replies.{Said, refuse, said_by, changed}
 use Rattle.index_rules.specs.Get.{key_entry, key_segment}

@@ -17,7 +17,7 @@ use Rattle.stores.proofs.Tests.{by_test, or_cases}
 use Rattle.stores.proofs.Written.{at_front_words, at_front_length}
 use Rattle.replies.specs.declared.Refusal.{Refusal}
 use Rattle.replies.specs.declared.Refusal.TheVariants.{NoLeader}
-use Rattle.replies.specs.Replies.{listed, refused, refuse, number_of, is_refusal, says_damage, said_by, unless}
+use Rattle.replies.specs.Replies.{listed, refused, refuse, number_of, is_refusal, says_damage, unless}
 use Rattle.replies.specs.Writing.{Writing, behind_tests}
 use Rattle.index_rules.specs.declared.Call.TheVariants.{List as ListCall, ListBlock}
 use Rattle.index_rules.specs.Layout.{depth, segments, entry_at, local_depth}

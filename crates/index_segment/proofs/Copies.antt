@@ -1,12 +1,10 @@
 -- The stores of the copy step for one slot.
-use Prim.Native.Nat.{ℕ, ◌+◌, ◌*◌, ◌≤◌}
-use native.Mathlib.Nat.{zero-add}
+use Prim.Native.Nat.{ℕ, ◌≤◌}
 use native.Mathlib.Omega.{arith}
 use mathlib.Core.Path.{◌≡◌}
 use mathlib.Core.Bool.{true, false}
-use mathlib.Core.List.{List, [], ◌∷◌}
+use mathlib.Core.List.{List}
 use lib.ListN.{length}
-use Rattle.stores.specs.Store.{store}
 use Rattle.stores.proofs.Tests.{by_test}
 use Rattle.index_rules.specs.Split.{moves, copy_slot}
 use Rattle.index_segment.specs.Slot.{SlotHolds}

@@ -1,13 +1,11 @@
 -- The stores of a merge for one slot, by what it holds on both sides; and the search for a slot that is live on both.
-use Prim.Native.Nat.{ℕ, suc, ◌+◌, ◌*◌, ◌<◌}
-use native.Mathlib.Nat.{zero-add}
+use Prim.Native.Nat.{ℕ, suc, ◌<◌}
 use mathlib.Core.Path.{◌≡◌, refl}
 use mathlib.Core.Bool.{Bool, true, false}
-use mathlib.Core.List.{List, [], ◌∷◌}
+use mathlib.Core.List.{List, []}
 use lib.ListN.{get_or}
 use borrow.Author.Tests.{eq-eqb, ne_eqb}
 use Rattle.stores.specs.Lists.{any_below}
-use Rattle.stores.specs.Store.{store}
 use Rattle.stores.proofs.Lists.{any_true}
 use Rattle.index_rules.specs.Layout.{key_at}
 use Rattle.index_rules.specs.Merge.{live_left, live_right, both_live, merge_record, merge_slot}

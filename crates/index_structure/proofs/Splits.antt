@@ -30,7 +30,6 @@ use Rattle.index_laws.proofs.Halving.{halving_parts}
 use Rattle.index_laws.proofs.Put.{free_below}
 use Rattle.index_laws.proofs.Bound.{length_doubling, length_copying}
 use Rattle.index_layout.specs.declared.place.Place.{Place}
-use Rattle.index_layout.specs.Blocks.{shared}
 use Rattle.index_layout.specs.Places.{KeyPlace, shared_at}
 use Rattle.index_layout.proofs.Shapes.{bounds}
 use Rattle.index_layout.proofs.Places.{segment_fits, place_bounds, place_index}

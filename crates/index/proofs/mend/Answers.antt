@@ -1,5 +1,4 @@
 -- `index::mend` meets its contract.
-use borrow.Author.Rules.{rules}
 use mathlib.Core.Path.{◌≡◌, ap, ◌∙◌}
 use Rattle.std.specs.Prelude.{Result, Err}
 use Rattle.replies.specs.declared.Refusal.{Refusal}

@@ -1,7 +1,5 @@
 -- `index::remove` meets its contract.
-use native.Mathlib.Omega.{arith}
 use mathlib.Core.Path.{ap}
-use Rattle.stores.proofs.Loops.{begun_due}
 use Rattle.replies.specs.Replies.{said_by}
 use Rattle.index.proofs.Places.{chosen_hit, chosen_inside, not_chosen}
 use Rattle.index.proofs.Calls.{remove_refused, remove_absent, remove_done}

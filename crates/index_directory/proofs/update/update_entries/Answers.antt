@@ -1,5 +1,4 @@
 -- `index_directory::update::update_entries` meets its contract.
-use mathlib.Core.Path.{◌∙◌}
 use native.Mathlib.Omega.{arith}
 use Rattle.stores.proofs.Loops.{executed_length}
 use Rattle.index_directory.proofs.Updates.{length_filling, halves_fit, update_done}
