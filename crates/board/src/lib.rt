@@ -20,7 +20,8 @@ use job::{key_of, valid_year};
 use replies::{Answer, Refusal, Reply, without_store};
 use write::write_year;
 
-// Sets a job's pages: the index's put on the job's key.
+// Sets a job's pages: the index's put on the job's key. A `match` here and in the two calls below, and no `?`: a refusal is
+// an answer, with its number of stores.
 pub fn set(
     words: &mut [u64],
     year: u64,

@@ -66,6 +66,8 @@ fn get_reply(words: &[u64], key: u64) -> Result<Reply, Refusal>
     Ok(Reply::Value(value_at(words, place.base, slot)))
 }
 
+// The calls that store answer a refusal by a `match` and not by `?`: it is an answer, with its number of stores.
+
 // Put: the value at the first hit; else value and key into a usable slot; else a split, and the put
 // begins again with the allowance that is left. The depth still unused falls by one each time.
 pub fn put(words: &mut [u64], key: u64, value: u64, allowance: u32) -> Answer

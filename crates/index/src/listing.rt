@@ -98,7 +98,8 @@ pub(crate) fn write_block(words: &[u64], place: BlockPlace, list: &mut [u64], at
     write_live(&words[base..base + SEGMENT_WORDS], place.block, list, at)
 }
 
-// The number of live records of an index whose leaders are valid.
+// The number of live records of an index whose leaders are valid. The header stands beside the array, as in the scan: the
+// iterator is the struct of both.
 pub(crate) fn count_records(words: &[u64], header: Header) -> usize
     requires { LeadersRead header words.now }
     ensures { (result ≡ length (records words.now)) × (result ≤ 262144) }

@@ -19,6 +19,7 @@ pub(crate) fn place_to_read(words: &[u64], key: u64) -> Result<Place, Refusal>
     place_of(words, header, key)
 }
 
+// The same two tests in front, and then another order: a parameter that says whether to scan would be a switch.
 // For put, remove and merge: 1, 2, and 3 and 4 for the whole directory. The place is read before the scan, so
 // that the scan's loop has the registers to itself.
 pub(crate) fn place_to_change(words: &[u64], key: u64) -> Result<Place, Refusal>

@@ -53,6 +53,7 @@ fn scan_entry(before: ScanStep, entry: u64, i: usize, header: Header) -> Result<
 
 // One pass over the entries of the present directory: a leader is not valid, which is 'broken'; all are,
 // but an entry differs from its leader, which is 'unmended'; or neither.
+// The header stands beside the array here and in `free`, and in no struct with it: whoever calls has just read it.
 pub fn scan(words: &[u64], header: Header) -> Result<(), Refusal>
     requires { Describes header words.now }
     ensures { verdict_of result ≡ directory_tests words.now none }

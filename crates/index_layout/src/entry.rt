@@ -32,7 +32,7 @@ pub fn local_depth_of(entry: u64) -> u32
     (entry / DEPTH_UNIT) as u32
 }
 
-// The entry of this segment and local depth.
+// The entry of this segment and local depth. No `From`, which takes no `requires`: the segment must fit its field.
 pub fn pack_entry(segment: usize, depth: u32) -> u64
     requires { segment < 2 ^ 32 }
     ensures { result ≡ entry segment depth }

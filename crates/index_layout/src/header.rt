@@ -76,7 +76,7 @@ pub fn segment_base(max_depth: u32, segment: usize) -> usize
     pow2(max_depth + 1) + SEGMENT_WORDS * segment
 }
 
-// Word 0 with these G, D and S.
+// Word 0 with these G, D and S. No `From`, which takes no `requires`: the numbers must fit their fields.
 pub fn pack_header(depth: u32, max_depth: u32, segments: u32) -> u64
     requires { (depth < 2 ^ 8) × (max_depth < 2 ^ 8) × (segments < 2 ^ 16) }
     ensures { result ≡ header depth max_depth segments }

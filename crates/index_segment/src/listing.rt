@@ -24,7 +24,7 @@ pub fn count_live(segment: &[u64], block: Block) -> usize
 }
 
 // Writes a slot's record to the list, key, then value, if the key is live. Answers the position
-// behind what is written.
+// behind what is written. The list and the position go through three functions, of which one loops: no struct of both.
 fn write_slot(list: &mut [u64], at: usize, held: Record, block: Block) -> usize
     requires { live block.local_depth (shared block) held.key ≡ true → at + 2 ≤ length list.old }
     ensures { (a : List ℕ) (slot : ℕ) → SlotHolds a slot held → Written (slot_words a block slot) at list.old result list.new }

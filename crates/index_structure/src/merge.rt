@@ -17,7 +17,7 @@ use replies::Refusal;
 use stores::Budget;
 
 // The two halves as the slots take them: where their segments stand, document 02's a and b, and the block
-// that they make.
+// that they make. The test and the stores both take it.
 #[derive(Clone, Copy)]
 pub struct Merging {
     pub left_base: usize,

@@ -16,7 +16,7 @@ use replies::{Answer, Reply};
 // The code of the reply absent; done is 0, a refusal has its number.
 const ABSENT: u32 = 255;
 
-// An answer: C's `struct page_index_reply`.
+// An answer: C's `struct page_index_reply`, with a number for the reply, as the C interface has it.
 #[repr(C)]
 #[derive(Clone, Copy)]
 pub struct PageIndexReply {
