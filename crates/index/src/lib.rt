@@ -45,7 +45,7 @@ pub fn format(words: &mut [u64], depth: u64, segments: u64, allowance: u32) -> A
         return without_store(Err(Refusal::TooShort));
     }
     let budget = store_empty(words, depth as u32, segments as u32, allowance);
-    after_stores(Reply::Done, budget)
+    after_stores(Ok(Reply::Done), budget)
 }
 
 // Get: the value of the key, or absent. It reads word 0, the key's entry and the probe window alone.
@@ -87,7 +87,7 @@ pub fn put(words: &mut [u64], key: u64, value: u64, allowance: u32) -> Answer
         Err(refused) => return without_store(Err(refused)),
     };
     if budget.is_cut() {
-        return after_stores(Reply::Done, budget);
+        return after_stores(Ok(Reply::Done), budget);
     }
     let made = budget.made();
     let rest = put(words, key, value, allowance - made);
@@ -122,7 +122,7 @@ pub fn merge(words: &mut [u64], key: u64, allowance: u32) -> Answer
         Err(refusal) => return without_store(Err(refusal)),
     };
     match merge_halves(words, place, allowance) {
-        Ok(budget) => after_stores(Reply::Done, budget),
+        Ok(budget) => after_stores(Ok(Reply::Done), budget),
         Err(refused) => without_store(Err(refused)),
     }
 }
@@ -144,7 +144,7 @@ pub fn mend(words: &mut [u64], allowance: u32) -> Answer
     }
     let mut budget = Budget::new(allowance);
     mend_entries(words, header, &mut budget);
-    after_stores(Reply::Done, budget)
+    after_stores(Ok(Reply::Done), budget)
 }
 
 // List: every live record into the list array, each as key, then value; words behind them stay. The

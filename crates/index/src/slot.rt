@@ -53,7 +53,7 @@ pub(crate) fn put_value(
 {
     let mut budget = Budget::new(allowance);
     store_value(words, place.base, slot, value, &mut budget);
-    after_stores(Reply::Done, budget)
+    after_stores(Ok(Reply::Done), budget)
 }
 
 // Stores value, then key, at a usable slot: a cut between the two shows no record with another's value.
@@ -74,7 +74,7 @@ pub(crate) fn put_record(
     };
     let mut budget = Budget::new(allowance);
     store_record(words, place.base, slot, record, &mut budget);
-    after_stores(Reply::Done, budget)
+    after_stores(Ok(Reply::Done), budget)
 }
 
 // Clears the key of the slot that has it.
@@ -85,5 +85,5 @@ pub(crate) fn clear_slot(words: &mut [u64], place: Place, slot: usize, allowance
 {
     let mut budget = Budget::new(allowance);
     clear_key(words, place.base, slot, &mut budget);
-    after_stores(Reply::Done, budget)
+    after_stores(Ok(Reply::Done), budget)
 }

@@ -55,13 +55,13 @@ pub fn without_store(reply: Result<Reply, Refusal>) -> Answer
 }
 
 // The answer of a call behind its stores: the reply, or cut off where more stores are due than it may make.
-pub fn after_stores(reply: Reply, budget: Budget) -> Answer
-    ensures { AfterStores result (said_by (Ok reply)) budget }
+pub fn after_stores(reply: Result<Reply, Refusal>, budget: Budget) -> Answer
+    ensures { AfterStores result (said_by reply) budget }
 {
     let reply = if budget.is_cut() {
         Err(Refusal::CutOff)
     } else {
-        Ok(reply)
+        reply
     };
     Answer {
         reply,

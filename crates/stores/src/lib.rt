@@ -20,6 +20,14 @@ impl Budget {
         Budget { allowance, due: 0 }
     }
 
+    // Of such a call, of whose stores so many have come due. No call of the library begins in the middle of its stores; who
+    // counts stores in another way goes on by it.
+    pub fn resume(allowance: u32, due: u32) -> Budget
+        ensures { (result.allowance ≡ allowance) × (result.due ≡ due) }
+    {
+        Budget { allowance, due }
+    }
+
     // Stores `value` at `at` if fewer than `allowance` stores were due before. The number of due stores rises
     // whether or not the word is stored, so a caller tests for the cut once, behind its last store.
     pub fn store(&mut self, words: &mut [u64], at: usize, value: u64)

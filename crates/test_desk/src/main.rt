@@ -2,10 +2,14 @@
 // and the output that it must give.
 #![tactic(auto)]
 
+ghost use Rattle.std.specs.Prelude.{◌<◌, length, IfSome};
+
 use desk_run::OUTPUT_BYTES;
+use intake::read_full;
+use std::fs::File;
 use std::io::{BufWriter, Write};
 use std::rt::Files;
-use std::{env, fs, io};
+use std::{env, io};
 
 // A file of so many bytes counts as not read.
 const SCRIPT_BYTES: usize = 32768;
@@ -29,36 +33,33 @@ fn test_script<W: Write>(out: &mut W, script: &[u8], expected: &[u8]) -> io::Res
     Ok(is_same)
 }
 
-// The bytes of the file that an argument names, if it can be read and has fewer than so many. An argument that
-// is missing names none.
-fn read_file<R: Files + AllocGlobal>(
-    rt: &R,
-    name: Option<&String>,
-    most: usize,
-) -> Option<Vec<u8>> {
-    let bytes = fs::read(rt, name?.as_str()).ok()?;
-    if bytes.len() < most {
-        Some(bytes)
-    } else {
-        None
-    }
+// Reads the file that an argument names into the buffer, and answers its bytes, if it can be read and has fewer than the
+// buffer. An argument that is missing names none.
+fn read_file<F: Files>(files: &F, name: Option<&String>, buffer: &mut [u8]) -> Option<usize>
+    ensures within { IfSome result (λ n. n < length buffer.new) }
+{
+    let mut file = File::open(files, name?.as_str()).ok()?;
+    let size = read_full(&mut file, buffer).ok()?;
+    (size < buffer.len()).then_some(size)
 }
 
 // Tests the script that the first of two arguments names against the output that the second names, and writes a
 // line.
-fn test_pair<R: Files + AllocGlobal, W: Write>(
-    rt: &R,
-    out: &mut W,
-    names: &[String],
-) -> io::Result<bool> {
+fn test_pair<F: Files, W: Write>(files: &F, out: &mut W, names: &[String]) -> io::Result<bool> {
     let script_name = names.first();
     if let Some(name) = script_name {
         write!(out, "{name}")?;
     }
-    let script = read_file(rt, script_name, SCRIPT_BYTES);
-    let expected = read_file(rt, names.get(1), EXPECTED_BYTES);
-    match (script, expected) {
-        (Some(script), Some(expected)) => test_script(out, &script, &expected),
+    let mut script = [0u8; SCRIPT_BYTES];
+    let mut expected = [0u8; EXPECTED_BYTES];
+    let script_size = read_file(files, script_name, &mut script);
+    let expected_size = read_file(files, names.get(1), &mut expected);
+    match (script_size, expected_size) {
+        (Some(size), Some(expected_size)) => test_script(
+            out,
+            &script[..size],
+            &expected[..expected_size],
+        ),
         _ => {
             writeln!(out, "\tnot read")?;
             Ok(false)
@@ -67,16 +68,12 @@ fn test_pair<R: Files + AllocGlobal, W: Write>(
 }
 
 // Tests each pair of arguments, and writes how many there were and how many gave the expected output.
-fn test_pairs<R: Files + AllocGlobal, W: Write>(
-    rt: &R,
-    out: &mut W,
-    names: &[String],
-) -> io::Result<()> {
+fn test_pairs<F: Files, W: Write>(files: &F, out: &mut W, names: &[String]) -> io::Result<()> {
     let mut scripts: u64 = 0;
     let mut same: u64 = 0;
     for pair in names.chunks(2) {
         scripts = scripts.saturating_add(1);
-        if test_pair(rt, out, pair)? {
+        if test_pair(files, out, pair)? {
             same = same.saturating_add(1);
         }
     }

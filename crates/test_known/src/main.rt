@@ -5,7 +5,9 @@
 
 mod reading;
 
-use reading::{Keys, Row};
+use intake::read_full;
+use reading::{AT_LETTER, COLUMNS, DUE, Place, Row, take_in_line};
+use std::io::Read;
 use std::{array, io};
 use test_array::array::words_before;
 use test_array::outcomes::{Outcome, Refusal, Reply};
@@ -14,6 +16,11 @@ use test_compare::arrays::Arrays;
 use test_compare::compare::make;
 use test_compare::family::run_family;
 use test_model::{Call, Change};
+
+// One byte more than the rows have at most.
+const TEXT_BYTES: usize = 16385;
+
+type Text = [u8; TEXT_BYTES];
 
 // The allowance of the states, and the words for D = 2, S = 4.
 const ALLOWANCE: u32 = 10000;
@@ -31,8 +38,18 @@ const FIRST_WORD_K: u64 = 0x5041474610000C00;
 // The keys that fill a window.
 const WINDOW: usize = 16;
 
+// The most records of a block.
+const BLOCK_RECORDS: usize = 64;
+
 // The number of a reply in the rows that is absent.
-const ABSENT: u64 = 255;
+const ABSENT: u32 = 255;
+
+// Sixteen keys: `first`, and on by `step`.
+#[derive(Clone, Copy)]
+struct Keys {
+    first: u64,
+    step: u64,
+}
 
 // Begins a case: both arrays empty, and this many words of them lent.
 fn begin(arrays: &mut Arrays, length: usize) {
@@ -42,19 +59,19 @@ fn begin(arrays: &mut Arrays, length: usize) {
 }
 
 // The number of a reply in the rows: 0 for done, or the refusal's.
-fn number_of(reply: Result<Reply, Refusal>) -> u64 {
+fn number_of(reply: Result<Reply, Refusal>) -> u32 {
     match reply {
         Ok(Reply::Absent) => ABSENT,
         Ok(_) => 0,
-        Err(refusal) => refusal as u64,
+        Err(refusal) => refusal as u32,
     }
 }
 
 // A call with the document's reply and number of stores.
-fn expect_call(arrays: &mut Arrays, call: Call, reply: u64, stores: u64) {
+fn expect_call(arrays: &mut Arrays, call: Call, reply: u32, stores: u32) {
     let seen = arrays.compare(call);
     arrays.expect(number_of(seen.reply) == reply);
-    arrays.expect(u64::from(seen.stores) == stores);
+    arrays.expect(seen.stores == stores);
 }
 
 // Compares a word of the index's array with the document's.
@@ -117,56 +134,111 @@ fn begin_deep(arrays: &mut Arrays) {
 // A list of one block that is done, with its number of records and the next index, 0 behind the last.
 fn expect_block(arrays: &mut Arrays, call: Call, records: u64, next: u64) {
     let seen = arrays.compare(call);
-    let due = Reply::Listed {
-        records,
-        next: if next == 0 { None } else { Some(next) },
+    arrays.expect(number_of(seen.reply) == 0 && seen.stores == 0);
+    let (found, follows) = match seen.reply {
+        Ok(Reply::Listed { records, next }) => (records, next.unwrap_or(0)),
+        _ => (0, 0),
     };
-    arrays.expect(seen.reply == Ok(due) && seen.stores == 0);
+    arrays.expect(found == records && follows == next);
 }
 
 // Compares a record of the list array.
 fn expect_record(arrays: &mut Arrays, number: usize, key: u64, value: u64) {
-    let found = arrays.listed.chunks_exact(2).nth(number);
+    let found = arrays.listed.chunks_exact(2).nth(number % BLOCK_RECORDS);
     let is_right = found.is_some_and(|pair| pair == [key, value].as_slice());
     arrays.expect(is_right);
 }
 
-// Does what a row asks for.
-fn take_row(arrays: &mut Arrays, row: Row) {
-    match row {
-        Row::Nothing => {}
-        Row::Case { words } => begin(arrays, words),
-        Row::Filled { segments, keys } => fill(arrays, segments, keys),
-        Row::Deep => begin_deep(arrays),
-        Row::Due {
-            call,
-            reply,
-            stores,
-        } => expect_call(arrays, call, reply, stores),
-        Row::Block {
-            call,
-            records,
-            next,
-        } => expect_block(arrays, call, records, next),
-        Row::Compared { call } => {
-            arrays.compare(call);
+// A number of 32 bits, as an allowance or a reply.
+fn half_of(number: u64) -> u32 {
+    (number % 4294967296) as u32
+}
+
+// The call of a letter, with its numbers. Any other capital letter is a list, which no row asks for: the table would
+// count it.
+fn call_of(letter: u8, first: u64, second: u64, third: u64) -> Call {
+    match letter {
+        b'F' => Change::Format {
+            max_depth: first,
+            segments: second,
         }
-        Row::Store { at, word } => set_both(arrays, at, word),
-        Row::Save => arrays.save(),
-        Row::TakeSaved => arrays.take_saved(),
-        Row::Word { at, word } => expect_word(arrays, at, word),
-        Row::Record { number, key, value } => expect_record(arrays, number, key, value),
-        Row::Slots { slot, keys } => expect_filled(arrays, slot, keys),
+        .allowed(half_of(third)),
+        b'G' => Call::Get { key: first },
+        b'P' => Change::Put {
+            key: first,
+            value: second,
+        }
+        .allowed(half_of(third)),
+        b'R' => Change::Remove { key: first }.allowed(half_of(second)),
+        b'J' => Change::Merge { key: first }.allowed(half_of(second)),
+        b'M' => Change::Mend.allowed(half_of(first)),
+        b'B' => Call::ListBlock {
+            index: first,
+            room: second as usize,
+        },
+        _ => Call::List { room: 0 },
     }
 }
 
-// Goes through all rows of the text. One that cannot be read is a difference.
-fn take_rows(arrays: &mut Arrays, text: &str) {
-    for line in text.lines() {
-        match line.parse() {
-            Ok(row) => take_row(arrays, row),
-            Err(_) => arrays.expect(false),
+// Begins a case, changes the arrays, or compares what stands in them. A letter that is for nothing is a
+// difference; 0 is that of a comment.
+fn take_other(arrays: &mut Arrays, letter: u8, first: u64, second: u64, third: u64) {
+    let keys = Keys {
+        first: second,
+        step: third,
+    };
+    match letter {
+        b'c' => begin(arrays, first as usize),
+        b'f' => fill(arrays, half_of(first), keys),
+        b'd' => begin_deep(arrays),
+        b'i' => set_both(arrays, first as usize, second),
+        b's' => arrays.save(),
+        b'u' => arrays.take_saved(),
+        b'w' => expect_word(arrays, first as usize, second),
+        b'r' => expect_record(arrays, first as usize, second, third),
+        b't' => expect_filled(arrays, first as usize, keys),
+        _ => arrays.expect(letter == 0),
+    }
+}
+
+// Does what a row asks for.
+fn take_row(arrays: &mut Arrays, row: &Row) {
+    let letter = (row[0] % 256) as u8;
+    let first = row[1];
+    let second = row[2];
+    let third = row[3];
+    let due = row[DUE];
+    let next_due = row[DUE + 1];
+    match letter {
+        b'A'..=b'Z' => {
+            let call = call_of(letter, first, second, third);
+            expect_call(arrays, call, half_of(due), half_of(next_due));
         }
+        b'b' => expect_block(arrays, call_of(b'B', first, second, 0), due, next_due),
+        b'p' => {
+            arrays.compare(call_of(b'P', first, second, third));
+        }
+        _ => take_other(arrays, letter, first, second, third),
+    }
+}
+
+// Takes a byte of the text: a line feed ends a row.
+fn take_byte(arrays: &mut Arrays, row: &mut Row, place: Place, byte: u8) -> Place {
+    if byte == b'\n' {
+        take_row(arrays, row);
+        *row = [0u64; COLUMNS];
+        return AT_LETTER;
+    }
+    take_in_line(row, place, byte)
+}
+
+// Goes through all rows of the text, byte by byte and not by `lines` and `parse`: what a row does that is not of the form
+// may not change.
+fn take_rows(arrays: &mut Arrays, text: &Text) {
+    let mut row = [0u64; COLUMNS];
+    let mut place = AT_LETTER;
+    for byte in text {
+        place = take_byte(arrays, &mut row, place, *byte);
     }
 }
 
@@ -203,16 +275,18 @@ fn state_k(arrays: &mut Arrays, words: &mut [u64; WORDS_K]) {
     format_largest(arrays, words, done, FIRST_WORD_K);
 }
 
-// The states of the text, and k.
-fn test_known(arrays: &mut Arrays, text: &str) {
+// The states of the text, which must have ended within the array, and k.
+fn test_known(arrays: &mut Arrays, text: &Text, size: usize) {
+    arrays.expect(size < TEXT_BYTES);
     take_rows(arrays, text);
     let mut words = [0u64; WORDS_K];
     state_k(arrays, &mut words);
 }
 
 fn main(rt: HostRuntime) -> io::Result<()> {
-    let text = io::read_to_string(rt.alloc(), rt.reader())?;
+    let mut text = [0u8; TEXT_BYTES];
+    let size = read_full(&mut rt.reader(), &mut text)?;
     run_family(&rt, "1 known states", |arrays: &mut Arrays| {
-        test_known(arrays, text.as_str());
+        test_known(arrays, &text, size);
     })
 }
