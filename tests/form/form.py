@@ -8,7 +8,7 @@ from kinds import (ALLOWANCE, ANSWER, ARRAY, BUDGET, BUDGET_AT, CALL, COUNTING, 
 from mir import arms, is_words, lines, listed, named_type, shown, statements, variants
 from tokens import NotUnderstood
 
-BEGIN, STORE, IS_CUT, MADE_OF = (f"stores::Budget::{name}" for name in ("new", "store", "is_cut", "made"))
+BEGIN, RESUME, STORE, IS_CUT, MADE_OF = (f"stores::Budget::{name}" for name in ("new", "resume", "store", "is_cut", "made"))
 END = "replies::after_stores"
 # Calls itself behind a split, with the allowance that is left.
 RESUMES = "index::put"
@@ -22,6 +22,11 @@ PINNED = {
     # allowance
     BEGIN: """\
 _0 = {_1, 0}
+return
+""",
+    # allowance, due; no call of the library begins so
+    RESUME: """\
+_0 = {_1, _2}
 return
 """,
     # self, words, at, value
@@ -64,7 +69,7 @@ if _5
     _8 = {6}
     _7 = {1, _8}
 else
-    _7 = {0, _1}
+    _7 = _1
 _4 = _7
 _10 = _3
 _9 = stores::Budget::made _10
@@ -324,6 +329,8 @@ class Reading:
             self.fail("a call that decides about stores answers into a part of a value")
         if name == BEGIN:
             return self.begun(state, kinds, target)
+        if name == RESUME:
+            self.fail("a budget begins with another count than 0")
         if name == END and BUDGET in kinds:
             return self.noted(replace(state, stands=ENDED), target, ANSWER)
         if self.name == RESUMES and name == IS_CUT and kinds == [BUDGET_AT] and state.stands == COUNTING:
