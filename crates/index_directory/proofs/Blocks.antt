@@ -1,8 +1,7 @@
 -- A pass over the directory, index by index: the block that it is in, and the leader of each index.
-use mathlib.Core.Path.{◌≡◌, refl, sym, ap, ◌∙◌}
+use mathlib.Core.Path.{◌≡◌, refl, sym, ◌∙◌}
 use mathlib.Core.Bool.{Bool, true, false, ◌&&◌, true≢false}
-use mathlib.Core.List.{List, ◌∷◌}
-use mathlib.Core.Logic.{◌⊎◌, inl, inr}
+use mathlib.Core.List.{List}
 use mathlib.Core.Option.{none, some}
 use Rattle.std.specs.Prelude.{Ok, Err}
 use Prim.Native.Nat.{ℕ, ◌+◌, ◌-◌, ◌*◌, ◌%◌, ◌^◌, ◌≤◌, ◌<◌}
@@ -10,9 +9,8 @@ use native.Mathlib.Numerals.{add-one}
 use native.Mathlib.Omega.{arith}
 use borrow.Author.Tests.{ltb-true, ltb-false, eq-eqb}
 use lib.Dec.{ltb, eqb}
-use lib.ListN.{take, drop, get_or, length}
+use lib.ListN.{take, drop, get_or}
 use lib.Seq.{get_or-take, get_or-drop}
-use Rattle.std.proofs.lemmas.List.{drop_more, length-drop, length-take-le}
 use Rattle.stores.specs.Lists.{pick, all_below}
 use Rattle.stores.proofs.Tests.{by_test, and_true}
 use Rattle.replies.specs.declared.Refusal.{Refusal}
@@ -36,21 +34,6 @@ pub part_entry : {h : Header} {a : List ℕ} (d : Describes h a) (count i : ℕ)
     → get_or (take (2 * count - count) (drop count a)) i 0 ≡ entry_at a (depth a) i
 part_entry {h} {a} d count i e k =
     get_or-take (2 * count - count) (drop count a) i 0 (omega arith) ∙ get_or-drop count a i 0 ∙ entry_word count i d e
-
--- These entries are as many as the directory has.
-pub part_length : (a : List ℕ) (count : ℕ) → 2 * count ≤ length a → length (take (2 * count - count) (drop count a)) ≡ count
-part_length a count h = length-take-le (2 * count - count) (drop count a) (rw (length-drop count a) (omega arith)) ∙ omega arith
-
--- A pass over a part xs has come to index i, and goes on: it reads the word y there, and the words ys are left.
-pub part_turn : (xs left ys : List ℕ) (i y : ℕ) → i < length xs → left ≡ drop i xs → left ≡ y ∷ ys
-    → (y ≡ get_or xs i 0) × (ys ≡ drop (i + 1) xs)
-part_turn xs left ys i y h e f =
-    let g = sym (drop_more xs i 0 h) ∙ sym e ∙ f in
-    (sym (ap (λ (l : List ℕ). get_or l 0 0) g), sym (ap (λ (l : List ℕ). drop 1 l) g))
-
--- It has come to the end where no word is left.
-pub part_end : (xs left : List ℕ) (i : ℕ) → left ≡ drop i xs → length left ≡ 0 → length xs ≤ i
-part_end xs left i e z = let n : length xs - i ≡ 0 = sym (length-drop i xs) ∙ ap (λ (l : List ℕ). length l) (sym e) ∙ z in omega arith
 
 -- A pass has come to index i. The block b of the index before, if there was one, begins at `start`, and ends at i or behind it.
 pub record Passing (a : List ℕ) (g S i : ℕ) (b : LedBlock) : Type 0 where
@@ -197,33 +180,10 @@ scan_goes_on a g S i s n k e =
       agreeing = f.1 ∙ rw (add-one, k.agreeing, f.0.leading_is);
     }
 
--- What a step answers at the entry that it reads in the directory, lent as a part of the array.
-pub scan_read : {h : Header} {a : List ℕ} (d : Describes h a) (count i : ℕ) → count ≡ 2 ^ h.depth → i < count → (s : ScanStep)
-    → scan_at h.depth h.segments i (get_or (take (2 * count - count) (drop count a)) i 0) s
-    ≡ scan_at (depth a) (segments a) i (entry_at a (depth a) i) s
-scan_read d count i e k s = rw (part_entry d count i e k, d.depth_read, d.segments_read)
-
--- A turn of a scan that takes index i beside the entry y: the directory's entry there is read, and the entries ys are left.
-pub record ScanTurn (h : Header) (a : List ℕ) (count i y : ℕ) (ys : List ℕ) : Type 0 where
-  pub below : i < 2 ^ depth a
-  pub reads : (s : ScanStep) → scan_at h.depth h.segments i y s ≡ scan_at (depth a) (segments a) i (entry_at a (depth a) i) s
-  pub later : ys ≡ drop (i + 1) (take (2 * count - count) (drop count a))
-
-pub scan_turn : {h : Header} {a : List ℕ} (d : Describes h a) (count i y : ℕ) (left ys : List ℕ) → count ≡ 2 ^ h.depth
-    → 2 * count ≤ length a → i < count → left ≡ drop i (take (2 * count - count) (drop count a)) → left ≡ y ∷ ys
-    → ScanTurn h a count i y ys
-scan_turn {h} {a} d count i y left ys e r k f g =
-    let t = part_turn (take (2 * count - count) (drop count a)) left ys i y (rw (part_length a count r) k) f g in
-    record { below = rw (d.depth_read, ← e) k; reads = λ s. rw t.0 (scan_read d count i e k s); later = t.1 }
-
--- It has come to the directory's end where the indices or the entries have.
-pub scan_end : {h : Header} {a : List ℕ} (d : Describes h a) (count i : ℕ) (left : List ℕ) → count ≡ 2 ^ h.depth → 2 * count ≤ length a
-    → i ≤ count → left ≡ drop i (take (2 * count - count) (drop count a)) → (count - i ≡ 0) ⊎ (length left ≡ 0) → i ≡ 2 ^ depth a
-scan_end {h} {a} d count i left e r k f (inl z) = rw d.depth_read (omega arith)
-scan_end {h} {a} d count i left e r k f (inr z) =
-    let p = part_end (take (2 * count - count) (drop count a)) left i f z in
-    let n : count ≤ i = rw (part_length a count r) at p in
-    rw d.depth_read (omega arith)
+-- What a step answers at the entry that it reads in the directory.
+pub scan_read : {h : Header} {a : List ℕ} (d : Describes h a) (count i : ℕ) → count ≡ 2 ^ h.depth → (s : ScanStep)
+    → scan_at h.depth h.segments i (get_or a (count + i) 0) s ≡ scan_at (depth a) (segments a) i (entry_at a (depth a) i) s
+scan_read d count i e s = rw (entry_word count i d e, d.depth_read, d.segments_read)
 
 module _ (a : List ℕ) (i : ℕ) (s : ScanStep) (k : Scanned a (depth a) (segments a) i s) where
   -- A leader that is not valid decides.
