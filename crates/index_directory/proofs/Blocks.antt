@@ -180,11 +180,10 @@ scan_goes_on a g S i s n k e =
       agreeing = f.1 ∙ rw (add-one, k.agreeing, f.0.leading_is);
     }
 
--- What a step answers at the entry that it reads in the directory, lent as a part of the array.
-pub scan_read : {h : Header} {a : List ℕ} (d : Describes h a) (count i : ℕ) → count ≡ 2 ^ h.depth → i < count → (s : ScanStep)
-    → scan_at h.depth h.segments i (get_or (take (2 * count - count) (drop count a)) i 0) s
-    ≡ scan_at (depth a) (segments a) i (entry_at a (depth a) i) s
-scan_read d count i e k s = rw (part_entry d count i e k, d.depth_read, d.segments_read)
+-- What a step answers at the entry that it reads in the directory.
+pub scan_read : {h : Header} {a : List ℕ} (d : Describes h a) (count i : ℕ) → count ≡ 2 ^ h.depth → (s : ScanStep)
+    → scan_at h.depth h.segments i (get_or a (count + i) 0) s ≡ scan_at (depth a) (segments a) i (entry_at a (depth a) i) s
+scan_read d count i e s = rw (entry_word count i d e, d.depth_read, d.segments_read)
 
 module _ (a : List ℕ) (i : ℕ) (s : ScanStep) (k : Scanned a (depth a) (segments a) i s) where
   -- A leader that is not valid decides.

@@ -53,6 +53,8 @@ fn scan_entry(before: ScanStep, entry: u64, i: usize, header: Header) -> Result<
 
 // One pass over the entries of the present directory: a leader is not valid, which is 'broken'; all are,
 // but an entry differs from its leader, which is 'unmended'; or neither.
+// By index: over the entries under `enumerate` the end is worked out from the depth in each turn, which takes put, remove and merge
+// half as much time again; over a `zip` of indices and entries both ends are tested, which takes a third.
 // The header stands beside the array here and in `free`, and in no struct with it: whoever calls has just read it.
 pub fn scan(words: &[u64], header: Header) -> Result<(), Refusal>
     requires { Describes header words.now }
@@ -61,8 +63,8 @@ pub fn scan(words: &[u64], header: Header) -> Result<(), Refusal>
     let count = pow2(header.depth);
     let block = LedBlock { leading: 0, end: 0 };
     let mut step = ScanStep { block, agree: true };
-    for (i, entry) in words[count..2 * count].iter().enumerate() {
-        step = scan_entry(step, *entry, i, header)?;
+    for i in 0..count {
+        step = scan_entry(step, words[count + i], i, header)?;
     }
     if step.agree {
         Ok(())
