@@ -8,7 +8,7 @@ from kinds import (ALLOWANCE, ANSWER, ARRAY, BUDGET, BUDGET_AT, CALL, COUNTING, 
 from mir import arms, is_words, lines, listed, named_type, shown, statements, variants
 from tokens import NotUnderstood
 
-BEGIN, RESUME, STORE, IS_CUT, MADE_OF = (f"stores::Budget::{name}" for name in ("new", "resume", "store", "is_cut", "made"))
+BEGIN, RESUME, STORE, DUE, IS_CUT, MADE_OF = (f"stores::Budget::{name}" for name in ("new", "resume", "store", "due", "is_cut", "made"))
 END = "replies::after_stores"
 # Calls itself behind a split, with the allowance that is left.
 RESUMES = "index::put"
@@ -44,6 +44,11 @@ _5 = _1.*.1
 _6 = (add unsigned) _5 1
 _1.*.1 = _6
 _0 = opd_unit
+return
+""",
+    # self; no call of the library asks it before its stores have ended
+    DUE: """\
+_0 = _1.*.1
 return
 """,
     # self
@@ -189,9 +194,12 @@ class Reading:
             if state.stands != COUNTING or not is_harmless(kind):
                 self.fail("is lent the budget, and answers otherwise")
             self.answers.append(BUDGET_AT)
-        elif kind == BUDGET or isinstance(kind, Tagged):
+        elif kind == BUDGET or isinstance(kind, Tagged) and kind.budget is not None:
             self.answers.append(kind)
-        elif state.stands in (ENDED, UNBEGUN):
+        elif state.stands == UNBEGUN:
+            self.answers.append(kind if isinstance(kind, Tagged) else ANSWER)
+        elif state.stands == ENDED:
+            # Of whatever variant it is: the stores were made, so that the caller may begin none.
             self.answers.append(ANSWER)
         else:
             self.fail("the budget is not answered")

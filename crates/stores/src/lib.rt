@@ -39,6 +39,16 @@ impl Budget {
         }
         self.due += 1;
     }
+
+    // How many stores have come due. No call of the library asks: it is for code that lends its own budget, and that learns with an
+    // allowance of 0 how many stores are needed, or behind a cut how many more than it allowed.
+    pub fn due(&self) -> u32
+        ensures { result ≡ self.now.due }
+    {
+        // Beyond the allowance too.
+        self.due
+    }
+
     // Whether the call is cut off: more stores are due than it may make.
     pub fn is_cut(&self) -> bool
         ensures { result ≡ ltb self.now.allowance self.now.due }
