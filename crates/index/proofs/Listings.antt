@@ -190,11 +190,11 @@ module _ {a : List ℕ} {count i : ℕ} {b : BlockPlace} (t : Turn a count i b) 
 
 -- A writing behind tests that refuse, and behind tests that pass.
 module _ (t : Option Refusal) (w : Writing) (l : List ℕ) where
-  wrote_nothing : (q : Refusal) → t ≡ some q → ListedBy (behind_tests t w) (Err q) l l
+  pub wrote_nothing : (q : Refusal) → t ≡ some q → ListedBy (behind_tests t w) (Err q) l l
   unfolding behind_tests
   wrote_nothing q e = rw e (refl, refl)
 
-  wrote_words : t ≡ none → (x : Result Reply Refusal) → said_by x ≡ w.reply → (n : ℕ) (l' : List ℕ) → Written w.words 0 l n l'
+  pub wrote_words : t ≡ none → (x : Result Reply Refusal) → said_by x ≡ w.reply → (n : ℕ) (l' : List ℕ) → Written w.words 0 l n l'
       → ListedBy (behind_tests t w) x l l'
   unfolding behind_tests
   wrote_words e x k n l' m = rw e (k, written_at_front w.words l n l' m)

@@ -40,14 +40,14 @@ module _ (a : List ℕ) (key allowance : ℕ) (r : Answer) where
     tests : Passed a key
     tests = passed a key x.0
 
-    merge_no_buddy : (b : List ℕ) → MergedBy (Err NoBuddy) p allowance a b → Without r (refused 14) → Answered (outcome_of a (Merge key allowance)) r b
+    pub merge_no_buddy : (b : List ℕ) → MergedBy (Err NoBuddy) p allowance a b → Without r (refused 14) → Answered (outcome_of a (Merge key allowance)) r b
     unfolding effect step merge
     merge_no_buddy b m k =
         rw m.1
         (answered_refused allowance (merge_tests a key) NoBuddy _ a r
         (tests_past tests ∙ no_buddy a (index key (depth a)) (key_entry a key) (rw x.1 at m.0)) k.0 k.1)
 
-    merge_both_live : (b : List ℕ) → MergedBy (Err BothLive) p allowance a b → Without r (refused 15) → Answered (outcome_of a (Merge key allowance)) r b
+    pub merge_both_live : (b : List ℕ) → MergedBy (Err BothLive) p allowance a b → Without r (refused 15) → Answered (outcome_of a (Merge key allowance)) r b
     unfolding effect step merge
     merge_both_live b m k =
         rw m.2

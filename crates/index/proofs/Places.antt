@@ -3,6 +3,7 @@ use mathlib.Core.Path.{◌≡◌, refl, sym, ◌∙◌}
 use mathlib.Core.Bool.{true, false}
 use mathlib.Core.List.{List}
 use mathlib.Core.Option.{Option, none, some}
+use Rattle.std.specs.Prelude.{Result, Ok}
 use Prim.Native.Nat.{ℕ, ◌+◌, ◌≤◌, ◌<◌}
 use lib.ListN.{length}
 use borrow.Author.Tests.{eq-eqb, ne_eqb}
@@ -21,7 +22,7 @@ use Rattle.index_segment.specs.declared.choice.Choice.{Choice}
 use Rattle.index_segment.specs.declared.choice.Choice.TheVariants.{Found, Into, Full}
 use Rattle.index_segment.specs.Answers.{choice_of}
 use Rattle.index_layout.specs.declared.place.Place.{Place}
-use Rattle.index_layout.specs.Places.{KeyPlace, shared_at}
+use Rattle.index_layout.specs.Places.{KeyPlace, PlacedBy, shared_at}
 use Rattle.index_layout.proofs.Places.{place_bounds, place_shared}
 
 module _ (a : List ℕ) (key : ℕ) (later : Option Refusal) where
@@ -76,6 +77,10 @@ module _ (a : List ℕ) (key : ℕ) where
 -- The tests t have passed, and p is the key's place.
 abbrev pub Stands : Place → List ℕ → (key : ℕ) → Option Refusal → Type 0
 Stands p a key t = (t ≡ none) × (p.key ≡ key) × KeyPlace p a
+
+-- What the tests have answered, where they have passed.
+pub stands : (r : Result Place Refusal) (a : List ℕ) (key : ℕ) (t : Option Refusal) → PlacedBy r a key t → (p : Place) → r ≡ Ok p → Stands p a key t
+stands r a key t e p q = rw q at e
 
 -- The choice of a slot in the segment at the key's place is that of the key.
 pub place_choice : {p : Place} {a : List ℕ} → KeyPlace p a → choose a p.base p.local_depth (shared_at p) p.key ≡ key_choice a p.key

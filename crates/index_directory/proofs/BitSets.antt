@@ -11,13 +11,13 @@ use lib.ListN.{length, set, replicate, get_or-replicate, length-replicate, get_o
 use Rattle.stores.specs.Store.{word}
 use Rattle.stores.proofs.Stores.{word_set_same, word_set_other}
 use Rattle.stores.proofs.Tests.{by_test, by_equal, by_less}
-use Rattle.index_directory.specs.BitSets.{holds, Empty, Inserted, SmallestMissing}
+use Rattle.index_directory.specs.BitSets.{IsBitSet, holds, Empty, Inserted, SmallestMissing}
 use Rattle.index_directory.proofs.Bits.{bit, zero_bit, with_bit, with_here, with_elsewhere, full_bit, LowestZero, lowest_zero}
 
 -- ---- One number more
 
 -- The set with the number, as the code makes it.
-module _ (a : List ℕ) (number : ℕ) (l : length a ≡ 64) (h : number < 4096) where
+module _ (a : List ℕ) (number : ℕ) (l : IsBitSet a) (h : number < 4096) where
   abbrev with_number : List ℕ
   with_number = set a (number / 64) (with_bit (word a (number / 64)) (number % 64))
 

@@ -197,7 +197,7 @@ module _ (a : List ℕ) (i : ℕ) (s : ScanStep) (k : Scanned a (depth a) (segme
       (λ t. rw (t, p.0))
 
   module _ (end : i ≡ 2 ^ depth a) where
-    all_valid : leaders_valid a (depth a) (segments a) ≡ true
+    pub all_valid : leaders_valid a (depth a) (segments a) ≡ true
     unfolding leaders_valid
     all_valid = rw end at k.leaders_valid_holds
 

@@ -7,6 +7,7 @@ use native.Mathlib.Numerals.{add-one}
 use native.Mathlib.Omega.{arith}
 use borrow.Author.Tests.{eq-eqb, ne_eqb, le-leb, lt-leb, leb-true, leb-false}
 use lib.Dec.{leb}
+use lib.ListN.{length}
 use lib.Pow.{pow_mono}
 use Rattle.stores.specs.Lists.{each}
 use Rattle.stores.specs.Store.{word, store}
@@ -26,7 +27,7 @@ use Rattle.index_layout.proofs.Places.{place_bounds, place_index}
 use Rattle.index_layout.proofs.Entries.{entry_word}
 use Rattle.index_directory.specs.declared.buddy.Starts.{Starts}
 use Rattle.index_directory.specs.declared.join.JoinedBlock.{JoinedBlock}
-use Rattle.index_directory.specs.Buddies.{BegunBy, pair_of, PairAt, joining_of}
+use Rattle.index_directory.specs.Buddies.{BegunBy, pair_of, PairAt, Joinable, joining_of}
 
 -- ---- The halves by where they begin
 
@@ -151,6 +152,15 @@ module _ {p : Place} {a : List ℕ} (k : KeyPlace p a) where
               (λ r. rw r (pair_left t (on_left b (λ h. omega (arith, leb-false s.right i r)))))
 
 -- ---- The entries of a joined block
+
+-- What a block whose entries can be stored says in numbers.
+pub record JoinedFit (b : JoinedBlock) (a : List ℕ) : Type 0 where
+  pub entries : 2 ^ b.depth ≤ 4096
+  pub inside : b.start + width b.depth b.local_depth ≤ 2 ^ b.depth
+  pub room : 2 ^ b.depth + 2 ^ b.depth ≤ length a
+
+pub joined_fit : {b : JoinedBlock} {a : List ℕ} → Joinable b a → JoinedFit b a
+joined_fit {b} j = record { entries = pow_mono {j = 12} j.depth_high; inside = j.inside; room = omega (arith, j.room) }
 
 -- All entries stored, from `first` on, which is the address of the block's first entry.
 pub join_done : (b : JoinedBlock) (power count e : ℕ) (m : Budget) (a : List ℕ) (m' : Budget) (a' : List ℕ) → power ≡ 2 ^ b.depth

@@ -61,11 +61,11 @@ module _ (a : List ℕ) where
 -- ---- The answer
 
 module _ {noted : List ℕ} {r : ℕ} (m : SmallestMissing r noted) (S : ℕ) where
-  free_there : r < S → some r ≡ free_in noted S
+  pub free_there : r < S → some r ≡ free_in noted S
   unfolding free_in
   free_there h = sym (first_at (λ s. not (holds noted s)) S r h (λ s k. ap not (m.below_held s k)) (ap not m.missing))
 
-  free_nowhere : S ≤ r → none ≡ free_in noted S
+  pub free_nowhere : S ≤ r → none ≡ free_in noted S
   unfolding free_in
   free_nowhere h = sym (first_nowhere (λ s. not (holds noted s)) S (λ s k. ap not (m.below_held s (omega arith))))
 

@@ -1,8 +1,12 @@
 -- A set of numbers as words of 64 bits: which numbers it holds, and what its functions leave and answer.
-use Rattle.std.specs.Prelude.{ℕ, ◌/◌, ◌%◌, ◌^◌, ◌<◌, ◌≡◌, Bool, true, false, ◌||◌, List, eqb}
+use Rattle.std.specs.Prelude.{ℕ, ◌/◌, ◌%◌, ◌^◌, ◌<◌, ◌≡◌, Bool, true, false, ◌||◌, List, eqb, length}
 use Rattle.stores.specs.Store.{word}
 
--- Number n is in the set that these words are: bit n mod 64 of word n / 64 is 1. No number of 4,096 or more is in a set of 64 words.
+-- The words are a set of numbers below 4,096: there are 64.
+abbrev pub IsBitSet : List ℕ → Type 0
+IsBitSet set = length set ≡ 64
+
+-- Number n is in the set: bit n mod 64 of word n / 64 is 1. No number of 4,096 or more is in a set of 64 words.
 unfoldable pub holds : List ℕ → ℕ → Bool
 holds set n = eqb (word set (n / 64) / 2 ^ (n % 64) % 2) 1
 

@@ -47,7 +47,7 @@ returns c =
     let d = header_valid _ _ c.read_header.ensures _ c.in-Ok.is in
     let other : c.scan.result ≡ Err Broken → ⊥ =
     elim c.match-scan.branch [
-      | in-Err-scan+in_default-refusal w ↦ not_this _ _ w.in-Err-scan.is w.in_default-refusal.not-Broken
+      | in-Err-scan+in_default-refusal v ↦ not_this _ _ v.in-Err-scan.is v.in_default-refusal.not-Broken
       | in_default w ↦ w.in_default.not-Err _
     ] in
     mend_done _ _ _ d.valid (verdict_valid c.args.words.now c.scan.result c.scan.ensures other) _ _ (rw c.new-budget.ensures at c.mend_entries.ensures)

@@ -1,4 +1,5 @@
 -- `index_directory::free::note_named` meets its contract.
+use borrow.Author.Rules.{rules}
 use native.Mathlib.Omega.{arith}
 use Prim.Native.Nat.{◌<◌}
 use Rattle.index_layout.proofs.Shapes.{bounds}
@@ -7,10 +8,10 @@ use Rattle.index_directory.proofs.Segments.{noted_none, noted_entry, noted_all}
 use Rattle.index_directory.proofs.free.note_named.Goals as goal
 
 pub loop-entry-init : goal.loop-entry-init
-loop-entry-init c = noted_none c.args.words.now _ c.requires.1
+loop-entry-init c = noted_none c.args.words.now _ c.requires.2
 
 pub note_entry-requires : goal.note_entry-requires
-note_entry-requires c = let b = bounds c.requires.0 in omega arith
+note_entry-requires c = let b = bounds c.requires.0 in (search rules, omega arith)
 
 pub loop-entry-preserved : goal.loop-entry-preserved
 loop-entry-preserved c =

@@ -3,4 +3,4 @@ use Rattle.index_directory.proofs.Segments.{NotedBelow}
 use Rattle.index_directory.proofs.free.note_named.Given as goal
 
 abbrev pub invariant-loop-entry : goal.invariant-loop-entry
-invariant-loop-entry l = NotedBelow l.words l.set.words l.entry-index
+invariant-loop-entry l = NotedBelow l.words l.set l.entry-index
