@@ -1,11 +1,12 @@
 -- The call of a line's fields, taken one after the other.
-use Rattle.std.proofs.Common.{◌≡◌, ℕ, ◌^◌, ◌<◌, ◌≤◌, List, [], ◌∷◌, length, get_or, refl, ap, ◌∙◌, arith}
+use Rattle.std.proofs.Common.{eqb, ◌≡◌, ℕ, ◌^◌, ◌<◌, ◌≤◌, List, [], ◌∷◌, length, get_or, refl, sym, ap, ◌∙◌, arith}
 use Rattle.std.proofs.Math.Option.{Option, none, some}
 use mathlib.Core.Logic.{inl, inr}
 use borrow.Author.Tests.{lt-ltb, le-ltb, ne_eqb}
 use Rattle.index_rules.specs.declared.Call.{Call}
 use Rattle.index_rules.specs.declared.Call.TheVariants.{Format, Put, Remove, Mend}
-use Rattle.text.specs.Parts.{tab, parts, fields_of}
+use Rattle.stores.proofs.Tests.{by_test}
+use Rattle.text.specs.Parts.{tab, started_by, parts, fields_of}
 use Rattle.text.specs.Number.{number}
 use Rattle.desk_text.specs.Line.{letter_format, letter_put, letter_get, letter_remove, letter_mend, letter_list, Spoken, spoken, both, numbers_of, allowed, call_with, called_with, call_of_fields, call_of}
 use Rattle.desk_text.specs.Fields.{NumberTaken, AllowanceTaken, if_last}
@@ -29,22 +30,21 @@ never rule (some ns) h = h ns
 -- The first field has been read.
 pub number_taken : (fields later : List (List ℕ)) (field : List ℕ) (r : Option ℕ) → fields ≡ field ∷ later → r ≡ number field
     → NumberTaken fields r later
-unfolding numbers_of both
-number_taken fields later field none e r = inr (rw (e, ← r))
-number_taken fields later field (some n) e r = rw (e, ← r)
+number_taken fields later field none e r = inr (field, later, e, sym r)
+number_taken fields later field (some n) e r = (field, e, sym r)
 
 -- There is no number where the rule asks for one.
 pub stopped : (rule : List ℕ → Option Spoken) (fields : List (List ℕ)) → NumberTaken fields none [] → rule [] ≡ none
     → after rule (numbers_of fields) ≡ none
-unfolding after numbers_of
+unfolding after numbers_of both
 stopped rule fields (inl empty) h = rw empty h
-stopped rule fields (inr no_number) h = rw no_number refl
+stopped rule fields (inr refused) h = rw (refused.2, refused.3) refl
 
 module _ (rule : List ℕ → Option Spoken) (fields later : List (List ℕ)) where
   -- A number has been taken: the rule is left for the numbers behind it.
   pub taken : (n : ℕ) → NumberTaken fields (some n) later → after rule (numbers_of fields) ≡ after (λ ns. rule (n ∷ ns)) (numbers_of later)
-  unfolding after both
-  taken n t = rw t (behind (numbers_of later))
+  unfolding after numbers_of both
+  taken n t = rw (t.1, t.2) (behind (numbers_of later))
     where
       behind : (o : Option (List ℕ)) → after rule (both (some n) o) ≡ after (λ ns. rule (n ∷ ns)) o
       behind none = refl
@@ -174,3 +174,18 @@ unfolding call_of_fields
 letter_first [] later h k = absurd (omega arith)
 letter_first (c ∷ []) later h k = refl
 letter_first (c ∷ d ∷ cs) later h k = absurd (omega arith)
+
+-- A line with another byte than a tab behind its first one.
+pub untabbed : (line : List ℕ) → 1 < length line → (get_or line 1 0 ≡ tab → ⊥) → call_of line ≡ none
+unfolding call_of fields_of parts started_by call_of_fields
+untabbed [] h n = absurd (omega arith)
+untabbed (c ∷ []) h n = absurd (omega arith)
+untabbed (c ∷ d ∷ xs) h n =
+    rw (ne_eqb d tab n)
+    (by_test (eqb c tab)
+    (λ t. rw t)
+    (λ t. rw t (started_twice c d (parts tab xs))))
+  where
+    started_twice : (c d : ℕ) (ps : List (List ℕ)) → call_of_fields (started_by c (started_by d ps)) ≡ none
+    started_twice c d [] = refl
+    started_twice c d (p ∷ ps) = refl
