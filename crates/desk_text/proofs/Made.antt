@@ -1,5 +1,5 @@
 -- The call of a letter and numbers: what the numbers are, and which are too few or too many.
-use Rattle.std.proofs.Common.{◌≡◌, ℕ, ◌<◌, ◌≤◌, List, [], ◌∷◌, length, get_or, refl, arith}
+use Rattle.std.proofs.Common.{◌≡◌, ◌⊎◌, ℕ, ◌<◌, ◌≤◌, List, [], ◌∷◌, length, get_or, refl, sym, arith}
 use Rattle.std.proofs.Math.Option.{none}
 use borrow.Author.Tests.{ne_eqb}
 use Rattle.desk_text.specs.Line.{letter_format, letter_put, letter_get, letter_remove, letter_mend, letter_list, call_with}
@@ -37,3 +37,20 @@ other_count c (x ∷ []) l g m r f p = rw (ne_eqb c letter_get (λ e. g e refl),
 other_count c (x ∷ y ∷ []) l g m r f p = rw (ne_eqb c letter_remove (λ e. r e refl))
 other_count c (x ∷ y ∷ z ∷ []) l g m r f p = rw (ne_eqb c letter_format (λ e. f e refl), ne_eqb c letter_put (λ e. p e refl))
 other_count c (x ∷ y ∷ z ∷ w ∷ ns) l g m r f p = refl
+
+-- A letter with a call of three numbers has none with another number of them; and so on.
+pub only_three : (c : ℕ) → (c ≡ letter_format) ⊎ (c ≡ letter_put) → (ns : List ℕ) → (length ns ≡ 3 → ⊥) → call_with c ns ≡ none
+only_three c which ns n =
+    sym (other_count c ns (λ l k. absurd (omega (arith, which, l))) (λ l k. absurd (omega (arith, which, l))) (λ l k. absurd (omega (arith, which, l))) (λ l k. absurd (omega (arith, which, l))) (λ l k. n k) (λ l k. n k))
+
+pub only_two : (c : ℕ) → c ≡ letter_remove → (ns : List ℕ) → (length ns ≡ 2 → ⊥) → call_with c ns ≡ none
+only_two c which ns n =
+    sym (other_count c ns (λ l k. absurd (omega (arith, which, l))) (λ l k. absurd (omega (arith, which, l))) (λ l k. absurd (omega (arith, which, l))) (λ l k. n k) (λ l k. absurd (omega (arith, which, l))) (λ l k. absurd (omega (arith, which, l))))
+
+pub only_one : (c : ℕ) → (c ≡ letter_get) ⊎ (c ≡ letter_mend) → (ns : List ℕ) → (length ns ≡ 1 → ⊥) → call_with c ns ≡ none
+only_one c which ns n =
+    sym (other_count c ns (λ l k. absurd (omega (arith, which, l))) (λ l k. n k) (λ l k. n k) (λ l k. absurd (omega (arith, which, l))) (λ l k. absurd (omega (arith, which, l))) (λ l k. absurd (omega (arith, which, l))))
+
+pub only_no_number : (c : ℕ) → c ≡ letter_list → (ns : List ℕ) → (length ns ≡ 0 → ⊥) → call_with c ns ≡ none
+only_no_number c which ns n =
+    sym (other_count c ns (λ l k. n k) (λ l k. absurd (omega (arith, which, l))) (λ l k. absurd (omega (arith, which, l))) (λ l k. absurd (omega (arith, which, l))) (λ l k. absurd (omega (arith, which, l))) (λ l k. absurd (omega (arith, which, l))))

@@ -1,14 +1,13 @@
 -- What the code takes of a line's fields, one after the other, and the letter and numbers that it reads of a line.
 use Rattle.std.specs.Prelude.{ℕ, ◌^◌, ◌<◌, ◌≤◌, ◌≡◌, ◌⊎◌, List, [], ◌∷◌, Some, None}
 use Rattle.std.proofs.Math.Option.{Option, none, some}
-use Rattle.index_rules.specs.declared.Call.{Call}
 use Rattle.text.specs.declared.parts.Parts.{Parts}
 use Rattle.text.specs.Left.{parts_left}
 use Rattle.text.specs.Number.{number}
 use Rattle.desk_text.specs.declared.fields.Numbers.{Numbers}
 use Rattle.desk_text.specs.declared.fields.Numbers.TheVariants.{Empty, One, Two, Three}
 use Rattle.desk_text.specs.declared.fields.Fields.{Fields}
-use Rattle.desk_text.specs.Line.{Spoken, spoken, numbers_of, call_with, called_with, call_of}
+use Rattle.desk_text.specs.Line.{Spoken, numbers_of, call_with, called_with, call_of}
 
 -- The first of the fields has been taken as a number, n, and the later ones are left; or there is none, or it is none.
 abbrev pub NumberTaken : (fields : List (List ℕ)) → Option ℕ → (later : List (List ℕ)) → Type 0
@@ -21,20 +20,15 @@ abbrev pub AllowanceOf : ℕ → Option ℕ → Type 0
 AllowanceOf n none = 2 ^ 32 ≤ n
 AllowanceOf n (some allowance) = (allowance ≡ n) × (n < 2 ^ 32)
 
--- The first of the fields has been taken as an allowance: a number of 2^32 or more is none.
-abbrev pub AllowanceTaken : (fields : List (List ℕ)) → Option ℕ → (later : List (List ℕ)) → Type 0
-AllowanceTaken fields none later = NumberTaken fields none later ⊎ ((n : ℕ) × (2 ^ 32 ≤ n) × NumberTaken fields (some n) later)
-AllowanceTaken fields (some n) later = (n < 2 ^ 32) × NumberTaken fields (some n) later
-
--- A call, where no field is left behind its own.
-abbrev pub if_last : (letter : ℕ) → Call → (later : List (List ℕ)) → Option Spoken
-if_last letter call [] = some (spoken letter call)
-if_last letter call (field ∷ later) = none
+-- A line that is a call, where no field is left behind the call's own.
+abbrev pub if_last : Spoken → (later : List (List ℕ)) → Option Spoken
+if_last line [] = some line
+if_last line (field ∷ later) = none
 
 -- The fields of the letter's call have been taken, and the later ones are left; or the letter has no call with the fields.
-abbrev pub CallTaken : (letter : ℕ) (fields : List (List ℕ)) → Option Call → (later : List (List ℕ)) → Type 0
+abbrev pub CallTaken : (letter : ℕ) (fields : List (List ℕ)) → Option Spoken → (later : List (List ℕ)) → Type 0
 CallTaken letter fields none later = called_with letter (numbers_of fields) ≡ none
-CallTaken letter fields (some call) later = called_with letter (numbers_of fields) ≡ if_last letter call later
+CallTaken letter fields (some line) later = called_with letter (numbers_of fields) ≡ if_last line later
 
 -- The line's letter has been taken, and the fields behind it are left; or the line is no call.
 abbrev pub LetterTaken : (line : List ℕ) → Rattle.std.specs.Prelude.Option (ℕ × Parts) → Type 0

@@ -3,7 +3,7 @@ ghost use Rattle.std.specs.Prelude.{◌≡◌};
 ghost use Rattle.stores.specs.Options.{option_of};
 ghost use Rattle.text.specs.Left.{parts_left};
 ghost use Rattle.desk_text.specs.Line.{call_of, call_with, line_said};
-ghost use Rattle.desk_text.specs.Fields.{NumberTaken, AllowanceOf, AllowanceTaken, CallTaken, fields_call};
+ghost use Rattle.desk_text.specs.Fields.{NumberTaken, AllowanceOf, CallTaken, fields_call};
 
 use crate::fields::{Fields, Numbers, take_letter};
 use index_rules::Call;
@@ -31,63 +31,39 @@ fn to_allowance(number: u64) -> Option<u32>
     u32::try_from(number).ok()
 }
 
-// Takes the next field, which is to be an allowance: a number below 2^32.
-fn allowance(fields: &mut Parts) -> Option<u32>
-    ensures { AllowanceTaken (parts_left fields.old) (option_of result) (parts_left fields.new) }
-{
-    to_allowance(number(fields)?)
-}
-
-// Takes the fields of the letter's call.
-fn read_call(letter: u8, fields: &mut Parts) -> Option<Call>
-    ensures { CallTaken letter (parts_left fields.old) (option_of result) (parts_left fields.new) }
+// Takes as many numbers as the letter's call has, and makes the call of them. No number is read for another letter.
+fn read_call(letter: u8, fields: &mut Parts) -> Option<Called>
+    ensures { CallTaken letter (parts_left fields.old) (line_said result) (parts_left fields.new) }
 {
     match letter {
-        b'F' => {
-            let depth = number(fields)?;
-            let segments = number(fields)?;
-            let allowance = allowance(fields)?;
-            Some(Call::Format {
-                depth,
-                segments,
-                allowance,
-            })
-        }
-        b'P' => {
-            let key = number(fields)?;
-            let value = number(fields)?;
-            let allowance = allowance(fields)?;
-            Some(Call::Put {
-                key,
-                value,
-                allowance,
-            })
+        b'F' | b'P' => {
+            let first = number(fields)?;
+            let second = number(fields)?;
+            let allowance = number(fields)?;
+            call_of(letter, &[first, second, allowance])
         }
         b'R' => {
             let key = number(fields)?;
-            let allowance = allowance(fields)?;
-            Some(Call::Remove { key, allowance })
+            let allowance = number(fields)?;
+            call_of(letter, &[key, allowance])
         }
-        b'G' => Some(Call::Get {
-            key: number(fields)?,
-        }),
-        b'M' => Some(Call::Mend {
-            allowance: allowance(fields)?,
-        }),
-        b'L' => Some(Call::List),
+        b'G' | b'M' => {
+            let only = number(fields)?;
+            call_of(letter, &[only])
+        }
+        b'L' => call_of(letter, &[]),
         _ => None,
     }
 }
 
-// Reads a line without its line feed: a letter, and numbers each behind a tab. Not by way of `read_fields` and
-// `call_of`: a letter that has no call is refused before its numbers are read.
+// Reads a line without its line feed: a letter, and numbers each behind a tab.
 pub fn read_line(line: &[u8]) -> Option<Called>
     ensures { line_said result ≡ call_of line.now }
 {
     let (letter, mut fields) = take_letter(line)?;
-    let call = read_call(letter, &mut fields)?;
+    let called = read_call(letter, &mut fields)?;
     match fields.next() {
-        None => Some(Called { letter, call }),
+        None => Some(called),
         Some(_) => None,
     }
 }
@@ -112,8 +88,8 @@ pub fn call_of(letter: u8, numbers: &[u64]) -> Option<Called>
             allowance: to_allowance(allowance)?,
         },
         (b'G', &[key]) => Call::Get { key },
-        (b'M', &[allowance]) => Call::Mend {
-            allowance: to_allowance(allowance)?,
+        (b'M', &[limit]) => Call::Mend {
+            allowance: to_allowance(limit)?,
         },
         (b'L', []) => Call::List,
         _ => return None,
