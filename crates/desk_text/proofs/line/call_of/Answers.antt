@@ -23,7 +23,7 @@ returns-in_err-to_allowance-in-82-len2 c =
 pub returns-in_err-to_allowance-in-77-len1 : goal.returns-in_err-to_allowance-in-77-len1
 returns-in_err-to_allowance-in-77-len1 c =
     let letter : c.args.letter ≡ 77 = omega arith in
-    rw (c.from_residual-in_err-to_allowance-in-77-len1.ensures, letter, one_number _ c.in-77-len1.len_at_least c.in-77-len1.len_below) (sym (mend_large _ [] c.in_err-to_allowance-in-77-len1.ensures))
+    rw (c.from_residual-in_err-to_allowance-in-77-len1.ensures, letter, one_number _ c.in-77-len1.len_at_least c.in-77-len1.len_below) (sym (mend_large (get_or c.args.numbers.now 0 0) [] (omega (arith, c.in_err-to_allowance-in-77-len1.ensures))))
 
 pub returns-in_default : goal.returns-in_default
 returns-in_default c =
@@ -94,8 +94,8 @@ returns-in_ok-to_allowance-in-82-len2 c =
 pub returns-in_ok-to_allowance-in-77-len1 : goal.returns-in_ok-to_allowance-in-77-len1
 returns-in_ok-to_allowance-in-77-len1 c =
     let letter : c.args.letter ≡ 77 = omega arith in
-    let same : c.in_ok-to_allowance-in-77-len1.field-0 ≡ get_or c.args.numbers.now 0 0 = c.in_ok-to_allowance-in-77-len1.ensures.0 in
-    rw (letter, same, one_number _ c.in-77-len1.len_at_least c.in-77-len1.len_below) (sym (mend_called _ c.in_ok-to_allowance-in-77-len1.ensures.1))
+    let same : c.in_ok-to_allowance-in-77-len1.field-0 ≡ get_or c.args.numbers.now 0 0 = omega (arith, c.in_ok-to_allowance-in-77-len1.ensures.0) in
+    rw (letter, same, one_number _ c.in-77-len1.len_at_least c.in-77-len1.len_below) (sym (mend_called (get_or c.args.numbers.now 0 0) (omega (arith, c.in_ok-to_allowance-in-77-len1.ensures.1))))
 
 pub returns-in-71-len1 : goal.returns-in-71-len1
 unfolding call_with
