@@ -14,7 +14,7 @@ const YEAR_KEYS: u64 = 65536;
 
 const MONTH_KEYS: u64 = 4096;
 
-// Which job: one that there may be.
+// Which job. Its month and number are ones that there may be, and its year is 9999 at most: year 0 the tests refuse.
 #[derive(Clone, Copy)]
 pub struct JobId {
     pub year: u64,

@@ -1,14 +1,14 @@
 -- The call of a line's fields, taken one after the other.
-use Rattle.std.proofs.Common.{◌≡◌, ℕ, ◌^◌, ◌<◌, ◌≤◌, List, [], ◌∷◌, length, get_or, refl, ap, ◌∙◌, arith}
+use Rattle.std.proofs.Common.{eqb, ◌≡◌, ℕ, ◌^◌, ◌<◌, ◌≤◌, List, [], ◌∷◌, length, get_or, refl, sym, ap, ◌∙◌, arith}
 use Rattle.std.proofs.Math.Option.{Option, none, some}
 use mathlib.Core.Logic.{inl, inr}
 use borrow.Author.Tests.{lt-ltb, le-ltb, ne_eqb}
-use Rattle.index_rules.specs.declared.Call.{Call}
 use Rattle.index_rules.specs.declared.Call.TheVariants.{Format, Put, Remove, Mend}
-use Rattle.text.specs.Parts.{tab, parts, fields_of}
+use Rattle.stores.proofs.Tests.{by_test}
+use Rattle.text.specs.Parts.{tab, started_by, parts, fields_of}
 use Rattle.text.specs.Number.{number}
 use Rattle.desk_text.specs.Line.{letter_format, letter_put, letter_get, letter_remove, letter_mend, letter_list, Spoken, spoken, both, numbers_of, allowed, call_with, called_with, call_of_fields, call_of}
-use Rattle.desk_text.specs.Fields.{NumberTaken, AllowanceTaken, if_last}
+use Rattle.desk_text.specs.Fields.{NumberTaken, CallTaken, if_last}
 
 -- What a rule gives for numbers, where all of them are there.
 unfoldable pub after : (List ℕ → Option Spoken) → Option (List ℕ) → Option Spoken
@@ -29,45 +29,48 @@ never rule (some ns) h = h ns
 -- The first field has been read.
 pub number_taken : (fields later : List (List ℕ)) (field : List ℕ) (r : Option ℕ) → fields ≡ field ∷ later → r ≡ number field
     → NumberTaken fields r later
-unfolding numbers_of both
-number_taken fields later field none e r = inr (rw (e, ← r))
-number_taken fields later field (some n) e r = rw (e, ← r)
+number_taken fields later field none e r = inr (field, later, e, sym r)
+number_taken fields later field (some n) e r = (field, e, sym r)
 
 -- There is no number where the rule asks for one.
 pub stopped : (rule : List ℕ → Option Spoken) (fields : List (List ℕ)) → NumberTaken fields none [] → rule [] ≡ none
     → after rule (numbers_of fields) ≡ none
-unfolding after numbers_of
+unfolding after numbers_of both
 stopped rule fields (inl empty) h = rw empty h
-stopped rule fields (inr no_number) h = rw no_number refl
+stopped rule fields (inr refused) h = rw (refused.2, refused.3) refl
 
 module _ (rule : List ℕ → Option Spoken) (fields later : List (List ℕ)) where
   -- A number has been taken: the rule is left for the numbers behind it.
   pub taken : (n : ℕ) → NumberTaken fields (some n) later → after rule (numbers_of fields) ≡ after (λ ns. rule (n ∷ ns)) (numbers_of later)
-  unfolding after both
-  taken n t = rw t (behind (numbers_of later))
+  unfolding after numbers_of both
+  taken n t = rw (t.1, t.2) (behind (numbers_of later))
     where
       behind : (o : Option (List ℕ)) → after rule (both (some n) o) ≡ after (λ ns. rule (n ∷ ns)) o
       behind none = refl
       behind (some ns) = refl
 
-  -- There is no allowance where the rule asks for one.
-  pub stopped_allowance : AllowanceTaken fields none later → rule [] ≡ none → ((n : ℕ) (ns : List ℕ) → 2 ^ 32 ≤ n → rule (n ∷ ns) ≡ none)
-      → after rule (numbers_of fields) ≡ none
-  stopped_allowance (inl t) h k = stopped rule fields t h
-  stopped_allowance (inr large) h k =
-      taken large.0 large.2 ∙ never (λ ns. rule (large.0 ∷ ns)) (numbers_of later) (λ ns. k large.0 ns large.1)
-
 -- The rule asks for no number more.
-pub last : (rule : List ℕ → Option Spoken) (fields : List (List ℕ)) (c : ℕ) (call : Call) → rule [] ≡ some (spoken c call)
-    → ((n : ℕ) (ns : List ℕ) → rule (n ∷ ns) ≡ none) → after rule (numbers_of fields) ≡ if_last c call fields
+pub last : (rule : List ℕ → Option Spoken) (fields : List (List ℕ)) (line : Spoken) → rule [] ≡ some line
+    → ((n : ℕ) (ns : List ℕ) → rule (n ∷ ns) ≡ none) → after rule (numbers_of fields) ≡ if_last line fields
 unfolding after numbers_of both
-last rule [] c call h k = h
-last rule (field ∷ fields) c call h k = more (number field) (numbers_of fields)
+last rule [] line h k = h
+last rule (field ∷ fields) line h k = more (number field) (numbers_of fields)
   where
     more : (n : Option ℕ) (o : Option (List ℕ)) → after rule (both n o) ≡ none
     more none o = refl
     more (some n) none = refl
     more (some n) (some ns) = k n ns
+
+-- The call has been made of the numbers that the rule asks for: it is the line's, if no field is left.
+pub made : (letter : ℕ) (fields : List (List ℕ)) (rule : List ℕ → Option Spoken) (later : List (List ℕ)) (line : Option Spoken)
+    → called_with letter (numbers_of fields) ≡ after rule (numbers_of later) → line ≡ rule []
+    → ((n : ℕ) (ns : List ℕ) → rule (n ∷ ns) ≡ none) → CallTaken letter fields line later
+made letter fields rule later none e h k = e ∙ never rule (numbers_of later) nothing
+  where
+    nothing : (ns : List ℕ) → rule ns ≡ none
+    nothing [] = sym h
+    nothing (n ∷ ns) = k n ns
+made letter fields rule later (some line) e h k = e ∙ last rule later line (sym h) k
 
 -- ---- The letters' rules: no number more, an allowance that is none, and the call
 
@@ -146,11 +149,11 @@ no_letter c f p r g m l (a ∷ b ∷ d ∷ []) = rw (ne_eqb c letter_format f, n
 no_letter c f p r g m l (a ∷ b ∷ d ∷ e ∷ ns) = refl
 
 -- No field is left behind the call's own, or one is.
-pub none_behind : (letter : ℕ) (call : Call) (later : List (List ℕ)) → later ≡ [] → some (spoken letter call) ≡ if_last letter call later
-none_behind letter call later e = rw e refl
+pub none_behind : (line : Spoken) (later : List (List ℕ)) → later ≡ [] → some line ≡ if_last line later
+none_behind line later e = rw e refl
 
-pub some_behind : (letter : ℕ) (call : Call) (field : List ℕ) (fields later : List (List ℕ)) → later ≡ field ∷ fields → none ≡ if_last letter call later
-some_behind letter call field fields later e = rw e refl
+pub some_behind : (line : Spoken) (field : List ℕ) (fields later : List (List ℕ)) → later ≡ field ∷ fields → none ≡ if_last line later
+some_behind line field fields later e = rw e refl
 
 -- ---- The first field
 
@@ -174,3 +177,18 @@ unfolding call_of_fields
 letter_first [] later h k = absurd (omega arith)
 letter_first (c ∷ []) later h k = refl
 letter_first (c ∷ d ∷ cs) later h k = absurd (omega arith)
+
+-- A line with another byte than a tab behind its first one.
+pub untabbed : (line : List ℕ) → 1 < length line → (get_or line 1 0 ≡ tab → ⊥) → call_of line ≡ none
+unfolding call_of fields_of parts started_by call_of_fields
+untabbed [] h n = absurd (omega arith)
+untabbed (c ∷ []) h n = absurd (omega arith)
+untabbed (c ∷ d ∷ xs) h n =
+    rw (ne_eqb d tab n)
+    (by_test (eqb c tab)
+    (λ t. rw t)
+    (λ t. rw t (started_twice c d (parts tab xs))))
+  where
+    started_twice : (c d : ℕ) (ps : List (List ℕ)) → call_of_fields (started_by c (started_by d ps)) ≡ none
+    started_twice c d [] = refl
+    started_twice c d (p ∷ ps) = refl

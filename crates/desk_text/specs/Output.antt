@@ -28,6 +28,10 @@ said_text (refused n) = []
 abbrev pub head_text : (letter : ℕ) → Said → List ℕ
 head_text letter said = letter ∷ tab ∷ reply_text said
 
+-- What it ends with, behind the store count.
+abbrev pub end_text : Said → List ℕ
+end_text said = said_text said ++ line_feed ∷ []
+
 -- The line of an answer: the letter, the reply, the stores made, and the value or count.
 unfoldable pub answer_line : (letter : ℕ) → Said → (stores : ℕ) → List ℕ
 answer_line letter said stores =

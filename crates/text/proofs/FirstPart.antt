@@ -39,34 +39,35 @@ parts_more b (x ∷ xs) h =
 abbrev pub Found : (b : ℕ) (xs : List ℕ) → Rattle.std.specs.Prelude.Option ℕ → Type 0
 Found b xs r = r ≡ cond (ltb (first_at b xs) (length xs)) (Some (first_at b xs)) None
 
-found_none : (b : ℕ) (xs : List ℕ) → Found b xs None → length xs ≤ first_at b xs
-found_none b xs f =
-    by_test (ltb (first_at b xs) (length xs))
+-- What a search answers that compares where it came to, i, with the length n.
+pub found_none : (i n : ℕ) → None ≡ cond (ltb i n) (Some i) None → n ≤ i
+found_none i n f =
+    by_test (ltb i n)
     (λ t. let clash = rw t at f in absurd (some_none (sym clash)))
     (λ t. ltb-false _ _ t)
   where
-    some_none : {n : ℕ} → Some n ≡ None → ⊥
+    some_none : {m : ℕ} → Some m ≡ None → ⊥
     some_none e = cc
 
-found_some : (b : ℕ) (xs : List ℕ) (end : ℕ) → Found b xs (Some end) → (end ≡ first_at b xs) × (first_at b xs < length xs)
-found_some b xs end f =
-    by_test (ltb (first_at b xs) (length xs))
+pub found_some : (i n end : ℕ) → Some end ≡ cond (ltb i n) (Some i) None → (end ≡ i) × (i < n)
+found_some i n end f =
+    by_test (ltb i n)
     (λ t. let same = rw t at f in (some_same same, ltb-true _ _ t))
     (λ t. let clash = rw t at f in absurd (some_none clash))
   where
-    some_none : {n : ℕ} → Some n ≡ None → ⊥
+    some_none : {m : ℕ} → Some m ≡ None → ⊥
     some_none e = cc
 
-    some_same : {m n : ℕ} → Some m ≡ Some n → m ≡ n
+    some_same : {m k : ℕ} → Some m ≡ Some k → m ≡ k
     some_same e = cc
 
 pub part_alone : (b : ℕ) (xs : List ℕ) → Found b xs None → parts b xs ≡ xs ∷ []
-part_alone b xs f = parts_one b xs (found_none b xs f)
+part_alone b xs f = parts_one b xs (found_none _ _ f)
 
 pub part_first : (b : ℕ) (xs : List ℕ) (end : ℕ) → Found b xs (Some end)
     → parts b xs ≡ take end xs ∷ parts b (take (length xs - (end + 1)) (drop (end + 1) xs))
 part_first b xs end f =
-    let found = found_some b xs end f in
+    let found = found_some _ _ end f in
     let same : end ≡ first_at b xs = found.0 in
     let within : length (drop (end + 1) xs) ≤ length xs - (end + 1) = simp length-drop (omega arith) in
     rw (take_all (length xs - (end + 1)) (drop (end + 1) xs) within, same) (parts_more b xs found.1)

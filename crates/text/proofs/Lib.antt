@@ -4,5 +4,6 @@ pub mod FirstPart
 pub mod Appended
 pub mod Progress
 pub mod Lines
+pub mod NextLine
 pub mod Joined
 pub mod Samples

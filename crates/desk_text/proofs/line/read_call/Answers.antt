@@ -1,132 +1,84 @@
--- `desk_text::line::read_call` meets its contract: the numbers are taken one after the other.
-use Rattle.std.proofs.Common.{◌≡◌, ◌∷◌, refl, ◌∙◌, arith}
-use Rattle.desk_text.specs.Line.{letter_format, letter_put, letter_get, letter_remove, letter_mend, letter_list, call_with}
-use Rattle.desk_text.proofs.Reading.{called_after, taken, stopped, stopped_allowance, last, never, list_ends, get_ends, mend_ends, mend_large, mend_called, remove_ends, remove_large, remove_called, three_end, format_large, format_called, put_large, put_called, no_letter}
+-- `desk_text::line::read_call` meets its contract: the numbers are taken one after the other, and the call is made of them.
+use Rattle.std.proofs.Common.{◌≡◌, [], ◌∷◌, ◌∙◌, arith}
+use Rattle.desk_text.specs.Line.{call_with}
+use Rattle.desk_text.proofs.Reading.{called_after, taken, stopped, made, never, no_letter}
+use Rattle.desk_text.proofs.Made.{only_three, only_two, only_one, only_no_number}
 use Rattle.desk_text.proofs.line.read_call.Goals as goal
 
-pub returns-in_err-depth-in-70 : goal.returns-in_err-depth-in-70
-unfolding call_with
-returns-in_err-depth-in-70 c =
-    let letter : c.args.letter ≡ 70 = omega arith in
-    rw (letter, c.from_residual.ensures) (
-    called_after letter_format _ ∙ stopped (call_with letter_format) _ c.in_err-depth-in-70.ensures refl)
+pub returns-in_err-first-in-70 : goal.returns-in_err-first-in-70
+returns-in_err-first-in-70 c =
+    rw c.from_residual.ensures
+    (called_after _ _ ∙ stopped (call_with c.args.letter) _ c.in_err-first-in-70.ensures (only_three _ c.in-70.is [] (λ n. absurd (omega arith))))
 
-pub returns-in_err-segments-in-70 : goal.returns-in_err-segments-in-70
-unfolding call_with
-returns-in_err-segments-in-70 c =
-    let letter : c.args.letter ≡ 70 = omega arith in
-    rw (letter, c.from_residual-in_err-segments-in-70.ensures) (
-    called_after letter_format _ ∙ taken (call_with letter_format) _ _ c.in_ok-depth-in-70.depth c.in_ok-depth-in-70.ensures ∙ stopped (λ ns. call_with letter_format (c.in_ok-depth-in-70.depth ∷ ns)) _ c.in_err-segments-in-70.ensures refl)
+pub returns-in_err-second-in-70 : goal.returns-in_err-second-in-70
+returns-in_err-second-in-70 c =
+    let first = c.in_ok-first-in-70.first in
+    rw c.from_residual-in_err-second-in-70.ensures
+    (called_after _ _ ∙ taken (call_with c.args.letter) _ _ first c.in_ok-first-in-70.ensures
+    ∙ stopped (λ ns. call_with c.args.letter (first ∷ ns)) _ c.in_err-second-in-70.ensures (only_three _ c.in-70.is (first ∷ []) (λ n. absurd (omega arith))))
 
 pub returns-in_err-allowance-in-70 : goal.returns-in_err-allowance-in-70
-unfolding call_with
 returns-in_err-allowance-in-70 c =
-    let letter : c.args.letter ≡ 70 = omega arith in
-    rw (letter, c.from_residual-in_err-allowance-in-70.ensures) (
-    called_after letter_format _ ∙ taken (call_with letter_format) _ _ c.in_ok-depth-in-70.depth c.in_ok-depth-in-70.ensures ∙ taken (λ ns. call_with letter_format (c.in_ok-depth-in-70.depth ∷ ns)) _ _ c.in_ok-segments-in-70.segments c.in_ok-segments-in-70.ensures
-    ∙ stopped_allowance (λ ns. call_with letter_format (c.in_ok-depth-in-70.depth ∷ c.in_ok-segments-in-70.segments ∷ ns)) _ _ c.in_err-allowance-in-70.ensures refl (format_large _ _))
-
-pub returns-in_ok-allowance-in-70 : goal.returns-in_ok-allowance-in-70
-unfolding call_with
-returns-in_ok-allowance-in-70 c =
-    let letter : c.args.letter ≡ 70 = omega arith in
-    rw letter (
-    called_after letter_format _ ∙ taken (call_with letter_format) _ _ c.in_ok-depth-in-70.depth c.in_ok-depth-in-70.ensures ∙ taken (λ ns. call_with letter_format (c.in_ok-depth-in-70.depth ∷ ns)) _ _ c.in_ok-segments-in-70.segments c.in_ok-segments-in-70.ensures
-    ∙ taken (λ ns. call_with letter_format (c.in_ok-depth-in-70.depth ∷ c.in_ok-segments-in-70.segments ∷ ns)) _ _ c.in_ok-allowance-in-70.allowance c.in_ok-allowance-in-70.ensures.1
-    ∙ last (λ ns. call_with letter_format (c.in_ok-depth-in-70.depth ∷ c.in_ok-segments-in-70.segments ∷ c.in_ok-allowance-in-70.allowance ∷ ns)) _ letter_format _ (format_called _ _ _ c.in_ok-allowance-in-70.ensures.0) (three_end letter_format c.in_ok-depth-in-70.depth c.in_ok-segments-in-70.segments c.in_ok-allowance-in-70.allowance))
-
-pub returns-in_err-key-in-80 : goal.returns-in_err-key-in-80
-unfolding call_with
-returns-in_err-key-in-80 c =
-    let letter : c.args.letter ≡ 80 = omega arith in
-    rw (letter, c.from_residual-in_err-key-in-80.ensures) (
-    called_after letter_put _ ∙ stopped (call_with letter_put) _ c.in_err-key-in-80.ensures refl)
-
-pub returns-in_err-value-in-80 : goal.returns-in_err-value-in-80
-unfolding call_with
-returns-in_err-value-in-80 c =
-    let letter : c.args.letter ≡ 80 = omega arith in
-    rw (letter, c.from_residual-in_err-value-in-80.ensures) (
-    called_after letter_put _ ∙ taken (call_with letter_put) _ _ c.in_ok-key-in-80.key c.in_ok-key-in-80.ensures ∙ stopped (λ ns. call_with letter_put (c.in_ok-key-in-80.key ∷ ns)) _ c.in_err-value-in-80.ensures refl)
-
-pub returns-in_err-allowance-in-80 : goal.returns-in_err-allowance-in-80
-unfolding call_with
-returns-in_err-allowance-in-80 c =
-    let letter : c.args.letter ≡ 80 = omega arith in
-    rw (letter, c.from_residual-in_err-allowance-in-80.ensures) (
-    called_after letter_put _ ∙ taken (call_with letter_put) _ _ c.in_ok-key-in-80.key c.in_ok-key-in-80.ensures ∙ taken (λ ns. call_with letter_put (c.in_ok-key-in-80.key ∷ ns)) _ _ c.in_ok-value-in-80.value c.in_ok-value-in-80.ensures
-    ∙ stopped_allowance (λ ns. call_with letter_put (c.in_ok-key-in-80.key ∷ c.in_ok-value-in-80.value ∷ ns)) _ _ c.in_err-allowance-in-80.ensures refl (put_large _ _))
-
-pub returns-in_ok-allowance-in-80 : goal.returns-in_ok-allowance-in-80
-unfolding call_with
-returns-in_ok-allowance-in-80 c =
-    let letter : c.args.letter ≡ 80 = omega arith in
-    rw letter (
-    called_after letter_put _ ∙ taken (call_with letter_put) _ _ c.in_ok-key-in-80.key c.in_ok-key-in-80.ensures ∙ taken (λ ns. call_with letter_put (c.in_ok-key-in-80.key ∷ ns)) _ _ c.in_ok-value-in-80.value c.in_ok-value-in-80.ensures
-    ∙ taken (λ ns. call_with letter_put (c.in_ok-key-in-80.key ∷ c.in_ok-value-in-80.value ∷ ns)) _ _ c.in_ok-allowance-in-80.allowance c.in_ok-allowance-in-80.ensures.1
-    ∙ last (λ ns. call_with letter_put (c.in_ok-key-in-80.key ∷ c.in_ok-value-in-80.value ∷ c.in_ok-allowance-in-80.allowance ∷ ns)) _ letter_put _ (put_called _ _ _ c.in_ok-allowance-in-80.ensures.0) (three_end letter_put c.in_ok-key-in-80.key c.in_ok-value-in-80.value c.in_ok-allowance-in-80.allowance))
+    let first = c.in_ok-first-in-70.first in
+    let second = c.in_ok-second-in-70.second in
+    rw c.from_residual-in_err-allowance-in-70.ensures
+    (called_after _ _ ∙ taken (call_with c.args.letter) _ _ first c.in_ok-first-in-70.ensures
+    ∙ taken (λ ns. call_with c.args.letter (first ∷ ns)) _ _ second c.in_ok-second-in-70.ensures
+    ∙ stopped (λ ns. call_with c.args.letter (first ∷ second ∷ ns)) _ c.in_err-allowance-in-70.ensures (only_three _ c.in-70.is (first ∷ second ∷ []) (λ n. absurd (omega arith))))
 
 pub returns-in_err-key-in-82 : goal.returns-in_err-key-in-82
-unfolding call_with
 returns-in_err-key-in-82 c =
     let letter : c.args.letter ≡ 82 = omega arith in
-    rw (letter, c.from_residual-in_err-key-in-82.ensures) (
-    called_after letter_remove _ ∙ stopped (call_with letter_remove) _ c.in_err-key-in-82.ensures refl)
+    rw c.from_residual-in_err-key-in-82.ensures
+    (called_after _ _ ∙ stopped (call_with c.args.letter) _ c.in_err-key-in-82.ensures (only_two _ letter [] (λ n. absurd (omega arith))))
 
 pub returns-in_err-allowance-in-82 : goal.returns-in_err-allowance-in-82
-unfolding call_with
 returns-in_err-allowance-in-82 c =
     let letter : c.args.letter ≡ 82 = omega arith in
-    rw (letter, c.from_residual-in_err-allowance-in-82.ensures) (
-    called_after letter_remove _ ∙ taken (call_with letter_remove) _ _ c.in_ok-key-in-82.key c.in_ok-key-in-82.ensures ∙ stopped_allowance (λ ns. call_with letter_remove (c.in_ok-key-in-82.key ∷ ns)) _ _ c.in_err-allowance-in-82.ensures refl (remove_large _))
+    let key = c.in_ok-key-in-82.key in
+    rw c.from_residual-in_err-allowance-in-82.ensures
+    (called_after _ _ ∙ taken (call_with c.args.letter) _ _ key c.in_ok-key-in-82.ensures
+    ∙ stopped (λ ns. call_with c.args.letter (key ∷ ns)) _ c.in_err-allowance-in-82.ensures (only_two _ letter (key ∷ []) (λ n. absurd (omega arith))))
+
+pub returns-in_err-only-in-71 : goal.returns-in_err-only-in-71
+returns-in_err-only-in-71 c =
+    rw c.from_residual-in_err-only-in-71.ensures
+    (called_after _ _ ∙ stopped (call_with c.args.letter) _ c.in_err-only-in-71.ensures (only_one _ c.in-71.is [] (λ n. absurd (omega arith))))
+
+pub returns-in_ok-allowance-in-70 : goal.returns-in_ok-allowance-in-70
+returns-in_ok-allowance-in-70 c =
+    let first = c.in_ok-first-in-70.first in
+    let second = c.in_ok-second-in-70.second in
+    let allowance = c.in_ok-allowance-in-70.allowance in
+    made _ _ (λ ns. call_with c.args.letter (first ∷ second ∷ allowance ∷ ns)) _ _
+    (called_after _ _ ∙ taken (call_with c.args.letter) _ _ first c.in_ok-first-in-70.ensures
+    ∙ taken (λ ns. call_with c.args.letter (first ∷ ns)) _ _ second c.in_ok-second-in-70.ensures
+    ∙ taken (λ ns. call_with c.args.letter (first ∷ second ∷ ns)) _ _ allowance c.in_ok-allowance-in-70.ensures)
+    c.call_of.ensures (λ n ns. only_three _ c.in-70.is _ (λ e. absurd (omega arith)))
 
 pub returns-in_ok-allowance-in-82 : goal.returns-in_ok-allowance-in-82
-unfolding call_with
 returns-in_ok-allowance-in-82 c =
     let letter : c.args.letter ≡ 82 = omega arith in
-    rw letter (
-    called_after letter_remove _ ∙ taken (call_with letter_remove) _ _ c.in_ok-key-in-82.key c.in_ok-key-in-82.ensures ∙ taken (λ ns. call_with letter_remove (c.in_ok-key-in-82.key ∷ ns)) _ _ c.in_ok-allowance-in-82.allowance c.in_ok-allowance-in-82.ensures.1
-    ∙ last (λ ns. call_with letter_remove (c.in_ok-key-in-82.key ∷ c.in_ok-allowance-in-82.allowance ∷ ns)) _ letter_remove _ (remove_called _ _ c.in_ok-allowance-in-82.ensures.0) (remove_ends c.in_ok-key-in-82.key c.in_ok-allowance-in-82.allowance))
+    let key = c.in_ok-key-in-82.key in
+    let allowance = c.in_ok-allowance-in-82.allowance in
+    made _ _ (λ ns. call_with c.args.letter (key ∷ allowance ∷ ns)) _ _
+    (called_after _ _ ∙ taken (call_with c.args.letter) _ _ key c.in_ok-key-in-82.ensures
+    ∙ taken (λ ns. call_with c.args.letter (key ∷ ns)) _ _ allowance c.in_ok-allowance-in-82.ensures)
+    c.call_of-in-82.ensures (λ n ns. only_two _ letter _ (λ e. absurd (omega arith)))
 
-pub returns-in_err-number-in-71 : goal.returns-in_err-number-in-71
-unfolding call_with
-returns-in_err-number-in-71 c =
-    let letter : c.args.letter ≡ 71 = omega arith in
-    rw (letter, c.from_residual-in_err-number-in-71.ensures) (
-    called_after letter_get _ ∙ stopped (call_with letter_get) _ c.in_err-number-in-71.ensures refl)
-
-pub returns-in_ok-number-in-71 : goal.returns-in_ok-number-in-71
-unfolding call_with
-returns-in_ok-number-in-71 c =
-    let letter : c.args.letter ≡ 71 = omega arith in
-    rw letter (
-    called_after letter_get _ ∙ taken (call_with letter_get) _ _ _ c.in_ok-number-in-71.ensures
-    ∙ last (λ ns. call_with letter_get (c.in_ok-number-in-71.field-0 ∷ ns)) _ letter_get _ refl (get_ends c.in_ok-number-in-71.field-0))
-
-pub returns-in_err-allowance-in-77 : goal.returns-in_err-allowance-in-77
-unfolding call_with
-returns-in_err-allowance-in-77 c =
-    let letter : c.args.letter ≡ 77 = omega arith in
-    rw (letter, c.from_residual-in_err-allowance-in-77.ensures) (
-    called_after letter_mend _ ∙ stopped_allowance (call_with letter_mend) _ _ c.in_err-allowance-in-77.ensures refl mend_large)
-
-pub returns-in_ok-allowance-in-77 : goal.returns-in_ok-allowance-in-77
-unfolding call_with
-returns-in_ok-allowance-in-77 c =
-    let letter : c.args.letter ≡ 77 = omega arith in
-    rw letter (
-    called_after letter_mend _ ∙ taken (call_with letter_mend) _ _ _ c.in_ok-allowance-in-77.ensures.1
-    ∙ last (λ ns. call_with letter_mend (c.in_ok-allowance-in-77.field-0 ∷ ns)) _ letter_mend _ (mend_called _ c.in_ok-allowance-in-77.ensures.0) (mend_ends c.in_ok-allowance-in-77.field-0))
+pub returns-in_ok-only-in-71 : goal.returns-in_ok-only-in-71
+returns-in_ok-only-in-71 c =
+    let only = c.in_ok-only-in-71.only in
+    made _ _ (λ ns. call_with c.args.letter (only ∷ ns)) _ _
+    (called_after _ _ ∙ taken (call_with c.args.letter) _ _ only c.in_ok-only-in-71.ensures)
+    c.call_of-in-71.ensures (λ n ns. only_one _ c.in-71.is _ (λ e. absurd (omega arith)))
 
 pub returns-in-76 : goal.returns-in-76
-unfolding call_with
 returns-in-76 c =
     let letter : c.args.letter ≡ 76 = omega arith in
-    rw letter (
-    called_after letter_list _ ∙ last (call_with letter_list) _ letter_list _ refl list_ends)
+    made _ _ (call_with c.args.letter) _ _ (called_after _ _) c.call_of-in-76.ensures (λ n ns. only_no_number _ letter _ (λ e. absurd (omega arith)))
 
 pub returns-in_default : goal.returns-in_default
-unfolding call_with
 returns-in_default c =
     called_after _ _
-    ∙ never _ _ (no_letter c.args.letter (λ e. absurd (omega arith)) (λ e. absurd (omega arith)) (λ e. absurd (omega arith)) (λ e. absurd (omega arith)) (λ e. absurd (omega arith)) (λ e. absurd (omega arith)))
+    ∙ never _ _ (no_letter c.args.letter (λ e. absurd (grind arith)) (λ e. absurd (grind arith)) (λ e. absurd (omega arith)) (λ e. absurd (grind arith)) (λ e. absurd (grind arith)) (λ e. absurd (omega arith)))
