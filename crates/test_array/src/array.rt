@@ -67,9 +67,9 @@ pub fn fields_of(first: u64) -> Shape {
     }
 }
 
-// The shape that word 0 gives to an array, if it is sound: it has the mark, its fields are allowed, and the
-// array has the words for them; so no array of no words is.
-pub fn shape_of(words: &[u64]) -> Option<Shape> {
+// The shape that word 0 gives to an array of this length, if it is sound: it has the mark, its fields are allowed,
+// and the array has the words for them; so no array of no words is.
+pub fn shape_of(words: &[u64], length: usize) -> Option<Shape> {
     let first = word_at(words, 0);
     if first / MARK_UNIT != MARK {
         return None;
@@ -80,7 +80,7 @@ pub fn shape_of(words: &[u64]) -> Option<Shape> {
         u64::from(fields.max_depth),
         u64::from(fields.segments),
     )?;
-    if words.len() < words_before(shape.max_depth, shape.segments) {
+    if length < words_before(shape.max_depth, shape.segments) {
         return None;
     }
     Some(shape)

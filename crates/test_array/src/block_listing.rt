@@ -33,8 +33,8 @@ fn next_behind(block: Block) -> Option<u64> {
 }
 
 // A list of one block.
-pub fn list_block(words: &[u64], index: u64, room: usize) -> Result<Part, Refusal> {
-    let shape = tests_of_list(words)?;
+pub fn list_block(words: &[u64], length: usize, index: u64, room: usize) -> Result<Part, Refusal> {
+    let shape = tests_of_list(words, length)?;
     let block = block_led(words, shape, index).ok_or(Refusal::NoLeader)?;
     Ok(Part {
         records: fitting(live_records(words, block), room)?,

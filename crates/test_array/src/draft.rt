@@ -18,16 +18,18 @@ struct Store {
 #[derive(Drop)]
 pub struct Draft {
     words: ArrayVec<u64, WORDS>,
+    length: usize,
     due: ArrayVec<Store, MOST_STORES>,
 }
 
 impl Draft {
-    // A draft of these words, with no store due.
-    pub fn new(words: &[u64]) -> Draft {
+    // A draft of an index, the first `length` words of an array, with no store due.
+    pub fn new(words: &[u64], length: usize) -> Draft {
         let mut copy = ArrayVec::new();
-        let _ = copy.try_extend_from_slice(words);
+        let _ = copy.try_extend_from_slice(&words[..length.min(words.len())]);
         Draft {
             words: copy,
+            length,
             due: ArrayVec::new(),
         }
     }
@@ -35,6 +37,11 @@ impl Draft {
     // The words with all due stores made.
     pub fn words(&self) -> &[u64] {
         self.words.as_slice()
+    }
+
+    // How many words the index has.
+    pub fn length(&self) -> usize {
+        self.length
     }
 
     // Makes a store on the copy and notes it behind the others.

@@ -5,8 +5,8 @@ use crate::outcomes::{Refusal, Reply};
 use crate::placing::find_held;
 
 // A get: the value of a key. It goes by the key's own entry alone.
-pub fn get(words: &[u64], key: u64) -> Result<Reply, Refusal> {
-    let shape = shape_of(words).ok_or(Refusal::NoStore)?;
+pub fn get(words: &[u64], length: usize, key: u64) -> Result<Reply, Refusal> {
+    let shape = shape_of(words, length).ok_or(Refusal::NoStore)?;
     if key == 0 {
         return Err(Refusal::NoKey);
     }

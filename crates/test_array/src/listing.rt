@@ -40,7 +40,7 @@ pub fn fitting(records: Records, room: usize) -> Result<Records, Refusal> {
 }
 
 // A list: the records that it writes.
-pub fn list(words: &[u64], room: usize) -> Result<Records, Refusal> {
-    let shape = tests_of_list(words)?;
+pub fn list(words: &[u64], length: usize, room: usize) -> Result<Records, Refusal> {
+    let shape = tests_of_list(words, length)?;
     fitting(records_of(words, shape), room)
 }

@@ -69,15 +69,15 @@ pub fn has_leader(words: &[u64], shape: Shape, index: u32) -> bool {
 }
 
 // What a list, of all blocks or of one, tests before anything else. It answers the shape.
-pub fn tests_of_list(words: &[u64]) -> Result<Shape, Refusal> {
-    let shape = shape_of(words).ok_or(Refusal::NoStore)?;
+pub fn tests_of_list(words: &[u64], length: usize) -> Result<Shape, Refusal> {
+    let shape = shape_of(words, length).ok_or(Refusal::NoStore)?;
     walk(words, shape)?;
     Ok(shape)
 }
 
 // What a put, a remove or a merge tests before anything else, in document 01's order. It answers the shape.
-pub fn tests_of_change(words: &[u64], key: u64) -> Result<Shape, Refusal> {
-    let shape = shape_of(words).ok_or(Refusal::NoStore)?;
+pub fn tests_of_change(words: &[u64], length: usize, key: u64) -> Result<Shape, Refusal> {
+    let shape = shape_of(words, length).ok_or(Refusal::NoStore)?;
     if key == 0 {
         return Err(Refusal::NoKey);
     }

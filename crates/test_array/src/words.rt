@@ -1,4 +1,4 @@
-// The words of an index, lent as a slice. A read outside the slice gives 0 and a store there does nothing, so
+// The array of an index, lent as a slice. A read outside the slice gives 0 and a store there does nothing, so
 // that nothing needs a fact on addresses; a store that is lost so shows as a difference.
 
 // The most words of an index: those of the put with the most stores, and some behind.

@@ -1,6 +1,6 @@
 // One call made on the index and on the model, each with an array of its own, and compared: reply,
 // number of stores, every word, and the list array. The answers are of the index, in the model's words.
-use crate::arrays::Arrays;
+use crate::arrays::ArraysOf;
 use crate::kind::Kind;
 use crate::said::{request_of, said_by};
 use replies::Answer;
@@ -14,7 +14,7 @@ pub fn make(words: &mut [u64], call: Call) -> Answer {
     index::perform(words, &mut [], request_of(call))
 }
 
-impl Arrays {
+impl<const INDEX_WORDS: usize> ArraysOf<INDEX_WORDS> {
     // Compares a call's answer with what is due, and counts it; `is_right` says whether the call left the right
     // words. Where no call of the index may answer so, what was due is counted.
     pub fn judge(&mut self, call: Call, answer: Answer, due: Outcome, is_right: bool) -> Outcome {
@@ -32,10 +32,11 @@ impl Arrays {
         let lent = self.lent();
         let words = &mut self.index[..lent];
         let answer = index::perform(words, &mut list[..room.min(WORDS)], request_of(call));
-        let records = call.records(&self.model[..lent]);
-        let due = call.perform(&mut self.model[..lent]);
+        let length = self.length();
+        let records = call.records(&self.model, length);
+        let due = call.perform(&mut self.model, length);
         self.listed = list;
-        let is_right = is_list_of(&list, &records) && self.index == self.model;
+        let is_right = is_list_of(&list, &records) && self.is_same();
         self.judge(call, answer, due, is_right)
     }
 
@@ -43,8 +44,9 @@ impl Arrays {
     fn compare_other(&mut self, call: Call) -> Outcome {
         let lent = self.lent();
         let answer = make(&mut self.index[..lent], call);
-        let due = call.perform(&mut self.model[..lent]);
-        let is_right = self.index == self.model;
+        let length = self.length();
+        let due = call.perform(&mut self.model, length);
+        let is_right = self.is_same();
         self.judge(call, answer, due, is_right)
     }
 

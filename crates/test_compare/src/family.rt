@@ -1,7 +1,15 @@
 // A test program: a family of cases, and then its table.
 use crate::arrays::Arrays;
+use crate::tally::Tally;
 use std::io;
 use std::io::{BufWriter, Write};
+
+// Writes the table of a family.
+pub fn write_family<R: Print + Alloc>(rt: &R, family: &str, tally: &Tally) -> io::Result<()> {
+    let mut out = BufWriter::new(rt.alloc(), io::writer(rt))?;
+    tally.write(&mut out, family)?;
+    out.flush()
+}
 
 // Runs a family on arrays of 0, and writes its table.
 pub fn run_family<R: Print + Alloc, F: FnOnce(&mut Arrays)>(
@@ -13,7 +21,5 @@ pub fn run_family<R: Print + Alloc, F: FnOnce(&mut Arrays)>(
 {
     let mut arrays = Arrays::new();
     run(&mut arrays);
-    let mut out = BufWriter::new(rt.alloc(), io::writer(rt))?;
-    arrays.tally.write(&mut out, family)?;
-    out.flush()
+    write_family(rt, family, &arrays.tally)
 }

@@ -12,9 +12,9 @@ use std::{array, io};
 use test_array::array::words_before;
 use test_array::outcomes::{Outcome, Refusal, Reply};
 use test_array::words::{WORDS, set_word, word_at};
-use test_compare::arrays::Arrays;
+use test_compare::arrays::ArraysOf;
 use test_compare::compare::make;
-use test_compare::family::run_family;
+use test_compare::family::write_family;
 use test_model::{Call, Change};
 
 // One byte more than the rows have at most.
@@ -26,6 +26,12 @@ type Text = [u8; TEXT_BYTES];
 const ALLOWANCE: u32 = 10000;
 
 const WORDS_4: usize = 520;
+
+// The most words that a row lends to the index. It reads and stores single words among the first `WORDS` alone, as the
+// model does.
+const INDEX_WORDS: usize = 30000;
+
+type Arrays = ArraysOf<INDEX_WORDS>;
 
 // The words for D = 12, S = 4,096.
 const WORDS_K: usize = 532480;
@@ -53,7 +59,7 @@ struct Keys {
 
 // Begins a case: both arrays empty, and this many words of them lent.
 fn begin(arrays: &mut Arrays, length: usize) {
-    arrays.index = [0; WORDS];
+    arrays.index = [0; INDEX_WORDS];
     arrays.model = [0; WORDS];
     arrays.begin_case(length);
 }
@@ -76,7 +82,7 @@ fn expect_call(arrays: &mut Arrays, call: Call, reply: u32, stores: u32) {
 
 // Compares a word of the index's array with the document's.
 fn expect_word(arrays: &mut Arrays, at: usize, word: u64) {
-    let found = word_at(&arrays.index, at);
+    let found = word_at(&arrays.index[..WORDS], at);
     arrays.expect(found == word);
 }
 
@@ -117,7 +123,7 @@ fn expect_filled(arrays: &mut Arrays, slot: usize, keys: Keys) {
 
 // Stores a word to both arrays.
 fn set_both(arrays: &mut Arrays, at: usize, word: u64) {
-    set_word(&mut arrays.index, at, word);
+    set_word(&mut arrays.index[..WORDS], at, word);
     set_word(&mut arrays.model, at, word);
 }
 
@@ -248,15 +254,22 @@ fn is_formatted(words: &[u64], first: u64) -> bool {
         && others.iter().all(|other| *other == 0))
 }
 
-// A format of the largest shape on these words, with the document's outcome, and the word 0 that it leaves.
-fn format_largest(arrays: &mut Arrays, words: &mut [u64], due: Outcome, first: u64) {
+// A format of the largest shape on so many words, with the document's outcome, and the word 0 that it leaves. All words
+// are compared, the one that may not be lent too.
+fn format_largest(
+    arrays: &mut Arrays,
+    words: &mut [u64; WORDS_K],
+    length: usize,
+    due: Outcome,
+    first: u64,
+) {
     arrays.begin_case(0);
     let format = Change::Format {
         max_depth: 12,
         segments: 4096,
     };
     let call = format.allowed(ALLOWANCE);
-    let answer = make(words, call);
+    let answer = make(&mut words[..length.min(WORDS_K)], call);
     arrays.judge(call, answer, due, is_formatted(words, first));
 }
 
@@ -267,12 +280,12 @@ fn state_k(arrays: &mut Arrays, words: &mut [u64; WORDS_K]) {
         reply: Err(Refusal::TooShort),
         stores: 0,
     };
-    format_largest(arrays, &mut words[..WORDS_K - 1], too_short, 0);
+    format_largest(arrays, words, WORDS_K - 1, too_short, 0);
     let done = Outcome {
         reply: Ok(Reply::Done),
         stores: 67,
     };
-    format_largest(arrays, words, done, FIRST_WORD_K);
+    format_largest(arrays, words, WORDS_K, done, FIRST_WORD_K);
 }
 
 // The states of the text, which must have ended within the array, and k.
@@ -286,7 +299,7 @@ fn test_known(arrays: &mut Arrays, text: &Text, size: usize) {
 fn main(rt: HostRuntime) -> io::Result<()> {
     let mut text = [0u8; TEXT_BYTES];
     let size = read_full(&mut rt.reader(), &mut text)?;
-    run_family(&rt, "1 known states", |arrays: &mut Arrays| {
-        test_known(arrays, &text, size);
-    })
+    let mut arrays = Arrays::new();
+    test_known(&mut arrays, &text, size);
+    write_family(&rt, "1 known states", &arrays.tally)
 }

@@ -21,7 +21,7 @@ pub(crate) fn plan_format(
     segments: u64,
 ) -> Result<Reply, Refusal> {
     let shape = shape_from(0, max_depth, segments).ok_or(Refusal::BadShape)?;
-    if draft.words().len() < words_before(shape.max_depth, shape.segments) {
+    if draft.length() < words_before(shape.max_depth, shape.segments) {
         return Err(Refusal::TooShort);
     }
     note_empty(draft, shape);

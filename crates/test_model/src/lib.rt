@@ -3,6 +3,9 @@
 // way: a call that stores first makes all its due stores on a copy and notes each, whatever the allowance;
 // then the first noted stores, as many as are allowed, are made on the words. Blocks and used segments are
 // found by marking. What the calls only read is in `test_array`.
+//
+// An index is the first `length` words of an array. The array may have fewer: what lies behind it is read as 0, and a
+// store there is lost.
 #![tactic(auto)]
 
 mod formatting;
@@ -75,23 +78,28 @@ impl Change {
         }
     }
 
-    // Makes the call on words.
-    fn perform(self, words: &mut [u64], allowance: u32) -> Outcome {
-        let mut draft = Draft::new(words);
+    // Makes the call on the first `length` words of an array.
+    fn perform(self, words: &mut [u64], length: usize, allowance: u32) -> Outcome {
+        let mut draft = Draft::new(words, length);
         let reply = self.plan(&mut draft);
         draft.carry_out(words, reply, allowance)
     }
 }
 
 // What a list replies.
-fn list_reply(words: &[u64], room: usize) -> Result<Reply, Refusal> {
-    let records = list(words, room)?;
+fn list_reply(words: &[u64], length: usize, room: usize) -> Result<Reply, Refusal> {
+    let records = list(words, length, room)?;
     Ok(Reply::Value(records.len() as u64))
 }
 
 // What a list of one block replies.
-fn list_block_reply(words: &[u64], index: u64, room: usize) -> Result<Reply, Refusal> {
-    let part = list_block(words, index, room)?;
+fn list_block_reply(
+    words: &[u64],
+    length: usize,
+    index: u64,
+    room: usize,
+) -> Result<Reply, Refusal> {
+    let part = list_block(words, length, index, room)?;
     Ok(Reply::Listed {
         records: part.records.len() as u64,
         next: part.next,
@@ -107,22 +115,22 @@ impl Call {
         }
     }
 
-    // Makes the call on the words of an index.
-    pub fn perform(self, words: &mut [u64]) -> Outcome {
+    // Makes the call on the first `length` words of an array.
+    pub fn perform(self, words: &mut [u64], length: usize) -> Outcome {
         let reply = match self {
-            Call::Change { change, allowance } => return change.perform(words, allowance),
-            Call::Get { key } => get(words, key),
-            Call::List { room } => list_reply(words, room),
-            Call::ListBlock { index, room } => list_block_reply(words, index, room),
+            Call::Change { change, allowance } => return change.perform(words, length, allowance),
+            Call::Get { key } => get(words, length, key),
+            Call::List { room } => list_reply(words, length, room),
+            Call::ListBlock { index, room } => list_block_reply(words, length, index, room),
         };
         Outcome { reply, stores: 0 }
     }
 
     // The records that the call writes into its list array: none, if it is refused or no list.
-    pub fn records(self, words: &[u64]) -> Records {
+    pub fn records(self, words: &[u64], length: usize) -> Records {
         match self {
-            Call::List { room } => list(words, room).unwrap_or_default(),
-            Call::ListBlock { index, room } => list_block(words, index, room)
+            Call::List { room } => list(words, length, room).unwrap_or_default(),
+            Call::ListBlock { index, room } => list_block(words, length, index, room)
                 .map(|part| part.records)
                 .unwrap_or_default(),
             _ => Records::new(),

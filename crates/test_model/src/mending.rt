@@ -17,7 +17,7 @@ fn mend_entries(draft: &mut Draft, shape: Shape, marks: &Marks) {
 
 // Plans a mend, if each leader is sound.
 pub(crate) fn plan_mend(draft: &mut Draft) -> Result<Reply, Refusal> {
-    let shape = shape_of(draft.words()).ok_or(Refusal::NoStore)?;
+    let shape = shape_of(draft.words(), draft.length()).ok_or(Refusal::NoStore)?;
     let marks = mark_blocks(draft.words(), shape)?;
     mend_entries(draft, shape, &marks);
     Ok(Reply::Done)

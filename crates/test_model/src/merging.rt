@@ -86,7 +86,7 @@ fn join(draft: &mut Draft, left: Block, right: Block) {
 
 // Plans a merge.
 pub(crate) fn plan_merge(draft: &mut Draft, key: u64) -> Result<Reply, Refusal> {
-    let shape = tests_of_change(draft.words(), key)?;
+    let shape = tests_of_change(draft.words(), draft.length(), key)?;
     let block = block_of(draft.words(), shape, key);
     let buddy = buddy_of(draft.words(), block).ok_or(Refusal::NoBuddy)?;
     if is_both_live(draft.words(), block, buddy) {

@@ -29,7 +29,7 @@ fn is_placed(draft: &mut Draft, block: Block, record: Record) -> bool {
 // Plans a put, if nothing is in the way: attempts, with a split of the key's block behind each that finds no
 // slot. A block that was split at every depth is too deep.
 pub(crate) fn plan_put(draft: &mut Draft, record: Record) -> Result<Reply, Refusal> {
-    let mut shape = tests_of_change(draft.words(), record.key)?;
+    let mut shape = tests_of_change(draft.words(), draft.length(), record.key)?;
     for _ in 0..ATTEMPTS {
         let block = block_of(draft.words(), shape, record.key);
         if is_placed(draft, block, record) {

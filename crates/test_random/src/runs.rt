@@ -126,7 +126,7 @@ const NO_SHAPE: Shape = Shape {
 
 // A list of one block of an array, near the block of a key.
 pub fn list_block_for(words: &[u64], key: u64, roll: u64) -> Call {
-    let shape = shape_of(words).unwrap_or(NO_SHAPE);
+    let shape = shape_of(words, words.len()).unwrap_or(NO_SHAPE);
     let index = index_for(block_of(words, shape, key), roll);
     let listed = block_at(words, shape, (index % INDICES) as u32);
     let enough = 2 * live_records(words, listed).len();
