@@ -4,15 +4,10 @@ use native.Mathlib.Nat.{add-zero, eq-or-lt_of_le, le_of_suc-le-suc, not-suc-le-z
 use native.Mathlib.Numerals.{add-one}
 use native.Mathlib.Omega.{arith}
 use mathlib.Core.Path.{◌≡◌, ◌∙◌}
-use mathlib.Core.Bool.{Bool, true, false}
+use mathlib.Core.Bool.{true, false}
 use mathlib.Core.List.{List, [], ◌∷◌, ◌++◌}
 use mathlib.Core.Logic.{⊎_elim}
-use lib.ListN.{length, get_or, set, length-append}
-use Rattle.std.specs.List.{count_by}
-use Rattle.std.specs.Prelude.{cond}
-use Rattle.std.specs.Simd.{first_chunks}
-use Rattle.std.proofs.lemmas.List.Sums.{sum_by-append}
-use Rattle.index_segment.proofs.Words.{pair, pair_key, pairs_more}
+use lib.ListN.{length, set, length-append}
 use Rattle.stores.specs.Lists.{each}
 use Rattle.stores.proofs.Lists.{each_zero, each_suc}
 use Rattle.stores.proofs.Tests.{by_test}
@@ -73,20 +68,6 @@ module _ (a : List ℕ) (L bits : ℕ) where
       (λ (q : j ≡ n). rw (← q, ← add-one j) (omega (arith, count_live j t)))
       (λ (q : j < n). rw (← add-one n) (omega (arith, count_room j n q t, count_more n)))
       (eq-or-lt_of_le (le_of_suc-le-suc k))
-
--- The pairs whose key is live are as many.
-module _ (a : List ℕ) (L bits : ℕ) where
-  -- A pair's key is live.
-  abbrev pub pair_lives : (slot : List ℕ) → Bool
-  pair_lives slot = live L bits (get_or slot 0 0)
-
-  pub count_pairs : (n : ℕ) → count_by pair_lives (first_chunks 2 n a) ≡ length (records_below a L bits n)
-  count_pairs zero = rw (records_none a L bits)
-  count_pairs (suc n) =
-      rw (pairs_more n a, sum_by-append (λ s. cond (pair_lives s) 1 0) (first_chunks 2 n a) (pair a n ∷ []), pair_key a n, count_pairs n, ← add-one n)
-      (by_test (live L bits (key_at a 0 n))
-      (λ t. rw (count_live a L bits n t, t))
-      (λ t. rw (count_stale a L bits n t, t) (add-zero _)))
 
 -- ---- Records as words
 

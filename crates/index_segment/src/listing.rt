@@ -13,14 +13,18 @@ use cells::Record;
 use index_layout::key::Block;
 
 // The number of live records of the block's segment.
+// By a loop: the chain of `filter` and `count` branches on each key, and takes up to seven times the time.
 pub fn count_live(segment: &[u64], block: Block) -> usize
     requires { length segment.now ≡ 128 }
     ensures { Counted segment.now block.local_depth (shared block) result }
 {
-    slots(segment)
-        .iter()
-        .filter(|slot| is_live(block, slot[0]))
-        .count()
+    let mut count = 0;
+    for [key, _] in slots(segment) {
+        if is_live(block, *key) {
+            count += 1;
+        }
+    }
+    count
 }
 
 // Writes a slot's record to the list, key, then value, if the key is live. Answers the position
