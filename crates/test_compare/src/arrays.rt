@@ -3,7 +3,8 @@
 // too, so an array is no vector of just the words lent.
 //
 // The index's array has `INDEX_WORDS` words, and the others `WORDS`. Where the index's has more, an index can be lent
-// more than the model has: the model is told how many, and the first `WORDS` words are saved and compared.
+// more than the model has: the model is told how many, and the first `WORDS` words are saved and compared. Where it has
+// as many, both are lent the same words.
 ghost use Rattle.std.specs.Prelude.{◌≤◌};
 
 use crate::tally::Tally;
@@ -41,9 +42,16 @@ impl<const INDEX_WORDS: usize> ArraysOf<INDEX_WORDS> {
         self.length = length;
     }
 
-    // How many words the model is told of, be it more than an array has.
-    pub(crate) fn length(&self) -> usize {
-        self.length
+    // How many words the model is told of: those that the index is lent; or, where the index's array is the longer one, those
+    // of the case, be it more than that array has.
+    pub(crate) fn length(&self) -> usize
+        ensures { INDEX_WORDS ≤ 10000 → result ≤ INDEX_WORDS }
+    {
+        if INDEX_WORDS <= WORDS {
+            self.lent()
+        } else {
+            self.length
+        }
     }
 
     // How many words the index is lent.
@@ -88,5 +96,51 @@ impl<const INDEX_WORDS: usize> ArraysOf<INDEX_WORDS> {
     // Counts a comparison: a difference if it failed.
     pub fn expect(&mut self, holds: bool) {
         self.tally.expect(holds);
+    }
+}
+
+#[cfg(test)]
+mod tests {
+    use super::*;
+    use std::test::Fail;
+    use test_array::outcomes::{Refusal, Reply};
+    use test_model::{ALL_STORES, Change};
+
+    // A case of more words than the model's array has, and a format that needs more, on both. Answers what it replied.
+    fn format_long<const INDEX_WORDS: usize>(
+        arrays: &mut ArraysOf<INDEX_WORDS>,
+    ) -> Result<Reply, Refusal> {
+        arrays.begin_case(20000);
+        let format = Change::Format {
+            max_depth: 7,
+            segments: 100,
+        };
+        arrays.compare(format.allowed(ALL_STORES)).reply
+    }
+
+    fn must(holds: bool, failure: &'static str) -> Result<(), Fail> {
+        if holds {
+            Ok(())
+        } else {
+            Err(Fail::new(failure))
+        }
+    }
+
+    #[test]
+    fn arrays_of_one_length_are_lent_alike() -> Result<(), Fail> {
+        let mut arrays = Arrays::new();
+        let reply = format_long(&mut arrays);
+        must(reply == Err(Refusal::TooShort), "the format is not refused")?;
+        must(arrays.length() == WORDS, "the model is told of more words")?;
+        must(arrays.tally.differences() == 0, "index and model differ")
+    }
+
+    #[test]
+    fn a_longer_index_is_lent_more() -> Result<(), Fail> {
+        let mut arrays: ArraysOf<30000> = ArraysOf::new();
+        let reply = format_long(&mut arrays);
+        must(reply == Ok(Reply::Done), "the format is not done")?;
+        must(arrays.length() == 20000, "the model is told of other words")?;
+        must(arrays.tally.differences() == 0, "index and model differ")
     }
 }

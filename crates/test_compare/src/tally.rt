@@ -49,6 +49,12 @@ impl Tally {
         }
     }
 
+    // How many comparisons failed.
+    #[cfg(test)]
+    pub(crate) fn differences(&self) -> u64 {
+        self.differences
+    }
+
     // Counts a call of the index, its stores and its reply.
     pub(crate) fn count_call(&mut self, kind: Kind, said: Outcome) {
         self.calls = self.calls.saturating_add(1);
