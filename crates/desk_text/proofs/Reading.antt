@@ -1,5 +1,5 @@
 -- The call of a line's fields, taken one after the other.
-use Rattle.std.proofs.Common.{eqb, ◌≡◌, ℕ, ◌^◌, ◌<◌, ◌≤◌, List, [], ◌∷◌, length, get_or, refl, sym, ap, ◌∙◌, arith}
+use Rattle.std.proofs.Common.{eqb, ◌≡◌, ◌⊎◌, ℕ, ◌^◌, ◌<◌, ◌≤◌, List, [], ◌∷◌, length, get_or, refl, sym, ap, ◌∙◌, arith}
 use Rattle.std.proofs.Math.Option.{Option, none, some}
 use mathlib.Core.Logic.{inl, inr}
 use borrow.Author.Tests.{lt-ltb, le-ltb, ne_eqb}
@@ -9,6 +9,7 @@ use Rattle.text.specs.Parts.{tab, started_by, parts, fields_of}
 use Rattle.text.specs.Number.{number}
 use Rattle.desk_text.specs.Line.{letter_format, letter_put, letter_get, letter_remove, letter_mend, letter_list, Spoken, spoken, both, numbers_of, allowed, call_with, called_with, call_of_fields, call_of}
 use Rattle.desk_text.specs.Fields.{NumberTaken, CallTaken, if_last}
+use Rattle.desk_text.proofs.Held.{number_first, no_number_first}
 
 -- What a rule gives for numbers, where all of them are there.
 unfoldable pub after : (List ℕ → Option Spoken) → Option (List ℕ) → Option Spoken
@@ -32,22 +33,34 @@ pub number_taken : (fields later : List (List ℕ)) (field : List ℕ) (r : Opti
 number_taken fields later field none e r = inr (field, later, e, sym r)
 number_taken fields later field (some n) e r = (field, e, sym r)
 
--- There is no number where the rule asks for one.
+-- There is no number where the rule asks for one: no field is left, or some field is no number.
+pub stopped_without : (rule : List ℕ → Option Spoken) (fields : List (List ℕ)) → (fields ≡ []) ⊎ (numbers_of fields ≡ none) → rule [] ≡ none
+    → after rule (numbers_of fields) ≡ none
+unfolding after numbers_of
+stopped_without rule fields (inl empty) h = rw empty h
+stopped_without rule fields (inr no_number) h = rw no_number refl
+
+-- The field that is asked for is none, or no number.
 pub stopped : (rule : List ℕ → Option Spoken) (fields : List (List ℕ)) → NumberTaken fields none [] → rule [] ≡ none
     → after rule (numbers_of fields) ≡ none
-unfolding after numbers_of both
-stopped rule fields (inl empty) h = rw empty h
-stopped rule fields (inr refused) h = rw (refused.2, refused.3) refl
+stopped rule fields (inl empty) h = stopped_without rule fields (inl empty) h
+stopped rule fields (inr refused) h =
+    stopped_without rule fields (inr (no_number_first fields refused.1 refused.0 refused.2 (sym refused.3))) h
 
 module _ (rule : List ℕ → Option Spoken) (fields later : List (List ℕ)) where
-  -- A number has been taken: the rule is left for the numbers behind it.
-  pub taken : (n : ℕ) → NumberTaken fields (some n) later → after rule (numbers_of fields) ≡ after (λ ns. rule (n ∷ ns)) (numbers_of later)
-  unfolding after numbers_of both
-  taken n t = rw (t.1, t.2) (behind (numbers_of later))
+  -- A number in front of those of later fields: the rule is left for the numbers behind it.
+  pub taken_before : (n : ℕ) → numbers_of fields ≡ both (some n) (numbers_of later)
+      → after rule (numbers_of fields) ≡ after (λ ns. rule (n ∷ ns)) (numbers_of later)
+  unfolding after both
+  taken_before n e = rw e (behind (numbers_of later))
     where
       behind : (o : Option (List ℕ)) → after rule (both (some n) o) ≡ after (λ ns. rule (n ∷ ns)) o
       behind none = refl
       behind (some ns) = refl
+
+  -- A number has been taken: so too.
+  pub taken : (n : ℕ) → NumberTaken fields (some n) later → after rule (numbers_of fields) ≡ after (λ ns. rule (n ∷ ns)) (numbers_of later)
+  taken n t = taken_before n (number_first fields later t.0 n t.1 (sym t.2))
 
 -- The rule asks for no number more.
 pub last : (rule : List ℕ → Option Spoken) (fields : List (List ℕ)) (line : Spoken) → rule [] ≡ some line
