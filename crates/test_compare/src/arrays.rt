@@ -42,8 +42,8 @@ impl<const INDEX_WORDS: usize> ArraysOf<INDEX_WORDS> {
         self.length = length;
     }
 
-    // How many words the model is told of: those that the index is lent; or, where the index's array is the longer one, those
-    // of the case, be it more than that array has.
+    // How many words the model is told of: those that the index is lent; or, where the index's array is the longer
+    // one, those of the case, be it more than that array has.
     pub(crate) fn length(&self) -> usize
         ensures { INDEX_WORDS ≤ 10000 → result ≤ INDEX_WORDS }
     {
@@ -118,6 +118,7 @@ mod tests {
         arrays.compare(format.allowed(ALL_STORES)).reply
     }
 
+    // Fails the test with these words, where it doesn't hold.
     fn must(holds: bool, failure: &'static str) -> Result<(), Fail> {
         if holds {
             Ok(())
