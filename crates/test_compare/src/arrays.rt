@@ -2,9 +2,9 @@
 // list; how many words of them are lent to a call; and the counts. The words behind those lent are compared
 // too, so an array is no vector of just the words lent.
 //
-// The index's array has `INDEX_WORDS` words, and the others `WORDS`. Where the index's has more, an index can be lent
-// more than the model has: the model is told how many, and the first `WORDS` words are saved and compared. Where it has
-// as many, both are lent the same words.
+// The index's array has `INDEX_WORDS` words, `WORDS` at least, and the others `WORDS`. Where the index's has more, an
+// index can be lent more than the model has: the model is told how many, and the first `WORDS` words are saved and
+// compared. Where it has as many, the model is told of those that the index is lent.
 ghost use Rattle.std.specs.Prelude.{◌≤◌};
 
 use crate::tally::Tally;
@@ -106,11 +106,12 @@ mod tests {
     use test_array::outcomes::{Refusal, Reply};
     use test_model::{ALL_STORES, Change};
 
-    // A case of more words than the model's array has, and a format that needs more, on both. Answers what it replied.
+    // A case of so many words, and a format that needs more than the model's array has. Answers what it replied.
     fn format_long<const INDEX_WORDS: usize>(
         arrays: &mut ArraysOf<INDEX_WORDS>,
+        words: usize,
     ) -> Result<Reply, Refusal> {
-        arrays.begin_case(20000);
+        arrays.begin_case(words);
         let format = Change::Format {
             max_depth: 7,
             segments: 100,
@@ -130,7 +131,7 @@ mod tests {
     #[test]
     fn arrays_of_one_length_are_lent_alike() -> Result<(), Fail> {
         let mut arrays = Arrays::new();
-        let reply = format_long(&mut arrays);
+        let reply = format_long(&mut arrays, 20000);
         must(reply == Err(Refusal::TooShort), "the format is not refused")?;
         must(arrays.length() == WORDS, "the model is told of more words")?;
         must(arrays.tally.differences() == 0, "index and model differ")
@@ -139,9 +140,10 @@ mod tests {
     #[test]
     fn a_longer_index_is_lent_more() -> Result<(), Fail> {
         let mut arrays: ArraysOf<30000> = ArraysOf::new();
-        let reply = format_long(&mut arrays);
+        let reply = format_long(&mut arrays, 40000);
         must(reply == Ok(Reply::Done), "the format is not done")?;
-        must(arrays.length() == 20000, "the model is told of other words")?;
+        must(arrays.lent() == 30000, "the index is lent other words")?;
+        must(arrays.length() == 40000, "the model is told of other words")?;
         must(arrays.tally.differences() == 0, "index and model differ")
     }
 }
