@@ -40,7 +40,7 @@ unfolding after numbers_of
 stopped_without rule fields (inl empty) h = rw empty h
 stopped_without rule fields (inr no_number) h = rw no_number refl
 
--- The field that is asked for is none, or no number.
+-- No field is left, or the first is no number: so too.
 pub stopped : (rule : List ℕ → Option Spoken) (fields : List (List ℕ)) → NumberTaken fields none [] → rule [] ≡ none
     → after rule (numbers_of fields) ≡ none
 stopped rule fields (inl empty) h = stopped_without rule fields (inl empty) h

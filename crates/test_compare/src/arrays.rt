@@ -106,7 +106,7 @@ mod tests {
     use test_array::outcomes::{Refusal, Reply};
     use test_model::{ALL_STORES, Change};
 
-    // A case of so many words, and a format that needs more than the model's array has. Answers what it replied.
+    // A case of so many words, and a format that needs more than the model's array has. Answers the index's reply.
     fn format_long<const INDEX_WORDS: usize>(
         arrays: &mut ArraysOf<INDEX_WORDS>,
         words: usize,
@@ -133,7 +133,7 @@ mod tests {
         let mut arrays = Arrays::new();
         let reply = format_long(&mut arrays, 20000);
         must(reply == Err(Refusal::TooShort), "the format is not refused")?;
-        must(arrays.length() == WORDS, "the model is told of more words")?;
+        must(arrays.length() == WORDS, "the model is told of other words")?;
         must(arrays.tally.differences() == 0, "index and model differ")
     }
 
