@@ -5,7 +5,7 @@
 // The index's array has `INDEX_WORDS` words, `WORDS` at least, and the others `WORDS`. Where the index's has more, an
 // index can be lent more than the model has: the model is told how many, and the first `WORDS` words are saved and
 // compared. Where it has as many, the model is told of those that the index is lent.
-ghost use Rattle.std.specs.Prelude.{◌≤◌};
+ghost use Rattle.std.specs.Prelude.{◌≡◌, ◌<◌, ◌≤◌, min};
 
 use crate::tally::Tally;
 use test_array::words::{Cells, WORDS};
@@ -45,7 +45,8 @@ impl<const INDEX_WORDS: usize> ArraysOf<INDEX_WORDS> {
     // How many words the model is told of: those that the index is lent; or, where the index's array is the longer
     // one, those of the case, be it more than that array has.
     pub(crate) fn length(&self) -> usize
-        ensures { INDEX_WORDS ≤ 10000 → result ≤ INDEX_WORDS }
+        ensures alike { INDEX_WORDS ≤ 10000 → result ≡ min self.now.length INDEX_WORDS }
+        ensures longer { 10000 < INDEX_WORDS → result ≡ self.now.length }
     {
         if INDEX_WORDS <= WORDS {
             self.lent()
@@ -56,7 +57,8 @@ impl<const INDEX_WORDS: usize> ArraysOf<INDEX_WORDS> {
 
     // How many words the index is lent.
     pub(crate) fn lent(&self) -> usize
-        ensures { result ≤ INDEX_WORDS }
+        ensures exact { result ≡ min self.now.length INDEX_WORDS }
+        ensures within { result ≤ INDEX_WORDS }
     {
         self.length.min(INDEX_WORDS)
     }
